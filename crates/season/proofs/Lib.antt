@@ -1,0 +1,3 @@
+-- Lemmas of the season.
+pub mod First
+pub mod Written

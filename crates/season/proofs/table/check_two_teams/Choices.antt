@@ -1,0 +1,7 @@
+-- No place before this one was refused.
+use Rattle.season.proofs.First.{Passed}
+use Rattle.season.proofs.table.check_two_teams.Given as given
+use Rattle.season.specs.Reading.{alone}
+
+abbrev pub Inv-loop-k : given.InvT-loop-k
+Inv-loop-k l = Passed (alone (l .bytes)) (l .sizes .games) (l .k)

@@ -1,0 +1,7 @@
+-- The words of the season: definitions that the contracts cite.
+pub mod Bytes
+pub mod Plan
+pub mod Promise
+pub mod Reading
+pub mod Refused
+pub mod Table

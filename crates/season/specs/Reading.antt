@@ -1,0 +1,89 @@
+-- What is read of a table's file: its number of teams in one byte, two bytes of points for each team, the low one first, then host and guest of each game left.
+use mathlib.Core.Bool.{Bool, not, cond, _&&_, _||_}
+use mathlib.Core.List.{List, map, _++_}
+use Prim.Native.Nat.{ℕ, zero, suc, min, _+_, _*_, _-_, _/_, _%_}
+use lib.Dec.{ltb, eqb}
+use lib.ListN.{length, getD, drop}
+use Rattle.std.specs.Iters.{counting}
+use Rattle.season.specs.declared.game.Game.{Game}
+use Rattle.season.specs.declared.table.Sizes.{Sizes}
+use Rattle.season.specs.Bytes.{number-at, game-at}
+use Rattle.season.specs.Refused.{Told, given, refused, unless}
+
+-- the first of the places from k on, of which there are n, where p holds, or the place after them
+abbrev pub first : (ℕ → Bool) → ℕ → ℕ → ℕ
+first p k zero = k
+first p k (suc n) = cond (p k) k (first p (suc k) n)
+
+-- refused at the first of n places where p holds, if there is one
+abbrev pub unless-at : {A : Type 0} → (ℕ → Bool) → ℕ → ℕ → Told A → Told A
+unless-at p n number after = unless (ltb (first p 0 n) n) number (first p 0 n) after
+
+abbrev pub teams-in : List ℕ → ℕ
+teams-in file = getD file 0 0
+
+-- the bytes of the points, and what follows them
+abbrev pub points-in : List ℕ → List ℕ
+points-in file = drop 1 file
+
+-- the bytes of the games
+abbrev pub games-in : List ℕ → List ℕ
+games-in file = drop (1 + 2 * teams-in file) file
+
+abbrev pub sizes-in : List ℕ → Sizes
+sizes-in file = record { teams = teams-in file; games = (length file - (1 + 2 * teams-in file)) / 2 }
+
+-- points above 1,000
+abbrev pub above : List ℕ → ℕ → Bool
+above bytes team = ltb 1000 (number-at bytes team)
+
+-- a game with a team that is not there
+abbrev pub absent : List ℕ → ℕ → ℕ → Bool
+absent bytes teams k = not (ltb (game-at bytes k .host) teams && ltb (game-at bytes k .guest) teams)
+
+-- a game of a team with itself
+abbrev pub alone : List ℕ → ℕ → Bool
+alone bytes k = eqb (game-at bytes k .host) (game-at bytes k .guest)
+
+-- 2: fewer than 2 or more than 64 teams
+abbrev pub teams-checked : List ℕ → Told Sizes → Told Sizes
+teams-checked file after = unless (ltb (teams-in file) 2 || ltb 64 (teams-in file)) 2 0 after
+
+-- 10: room for too few games, or for too few points
+abbrev pub memory-checked : Sizes → ℕ → ℕ → Told Sizes → Told Sizes
+memory-checked s row points after =
+    unless (ltb row (min (s .games) 1024)) 10 0 (unless (ltb points (s .teams)) 10 1 after)
+
+-- 3: a file that ends before its points are whole
+abbrev pub points-whole : List ℕ → Sizes → Told Sizes → Told Sizes
+points-whole file s after = unless (ltb (length file) (1 + 2 * s .teams)) 3 (length file) after
+
+-- 5: games that are not two bytes each, or more than 1,024
+abbrev pub games-whole : List ℕ → Sizes → Told Sizes → Told Sizes
+games-whole file s after =
+    unless (not (eqb ((length file - (1 + 2 * s .teams)) % 2) 0) || ltb 1024 (s .games)) 5 (length file) after
+
+-- the checks in their order, with s the sizes that the file's first byte and its length give
+abbrev pub checked : List ℕ → Sizes → ℕ → ℕ → Told Sizes
+checked file s row points =
+    teams-checked file
+    (memory-checked s row points
+    (points-whole file s
+    (unless-at (above (points-in file)) (s .teams) 4
+    (games-whole file s
+    (unless-at (absent (games-in file) (s .teams)) (s .games) 6
+    (unless-at (alone (games-in file)) (s .games) 7
+    (given s)))))))
+
+-- the answer of the reader, with room for a row of so many games and for the points of so many teams
+abbrev pub outcome : List ℕ → ℕ → ℕ → Told Sizes
+outcome file row points = checked file (sizes-in file) row points
+
+-- what lent memory holds afterwards: what was read, then what stood there; refused, what stood there
+abbrev pub points-after : Told Sizes → List ℕ → List ℕ → List ℕ
+points-after (given s) file old = map (number-at (points-in file)) (counting 0 (s .teams)) ++ drop (s .teams) old
+points-after (refused number place) file old = old
+
+abbrev pub games-after : Told Sizes → List ℕ → List Game → List Game
+games-after (given s) file old = map (game-at (games-in file)) (counting 0 (s .games)) ++ drop (s .games) old
+games-after (refused number place) file old = old

@@ -1,0 +1,5 @@
+// The season: games, rounds, refusals and the reader of table files.
+pub mod game;
+pub mod plan;
+pub mod refusal;
+pub mod table;

@@ -1,0 +1,194 @@
+// The reader of table files. A file has the number of teams in one byte, two bytes of points for each team, the low one first,
+// then host and guest of each game left. It is read into lent memory, or turned away by the first check that applies.
+ghost use mathlib.Core.Path.{_≡_};
+ghost use mathlib.Core.Bool.{cond};
+ghost use mathlib.Core.List.{_++_, map};
+ghost use Prim.Native.Nat.{_+_, _*_, _/_, _<_, _≤_};
+ghost use lib.ListN.{length, drop};
+ghost use Rattle.season.specs.Bytes.{number-at, game-at};
+ghost use Rattle.season.specs.Reading.{outcome, points-after, games-after, teams-checked, memory-checked, points-whole, games-whole, unless-at, above, absent, alone, sizes-in, teams-in, points-in, games-in};
+ghost use Rattle.season.specs.Refused.{told, given, unless};
+ghost use Rattle.std.specs.Iters.{counting};
+use crate::game::Game;
+use crate::game::whole_game;
+use crate::plan::MOST_TEAMS;
+use crate::refusal::Lent;
+use crate::refusal::Refusal;
+
+pub const MOST_POINTS: u16 = 1000;
+
+pub const MOST_GAMES: usize = 1024;
+
+// How many teams a table has, and how many games are left.
+#[derive(Clone, Copy, PartialEq, Eq, Debug)]
+pub struct Sizes {
+    pub teams: usize,
+    pub games: usize,
+}
+
+// The points at a place of the bytes of points, which has them.
+fn points_at(bytes: &[u8], team: usize) -> u16
+    requires { ⌜ team < length (now bytes) / 2 ⌝ }
+    ensures { λ r. ⌜ r ≡ number-at (now (bytes .entry)) team ⌝ }
+{
+    u16::from_le_bytes([bytes[2 * team], bytes[2 * team + 1]])
+}
+
+// Refuses fewer than 2 and more than 64 teams; else the sizes that the file's length gives.
+fn check_teams(file: &[u8]) -> Result<Sizes, Refusal>
+    ensures { λ r. ⌜ told r ≡ teams-checked (now (file .entry)) (given (sizes-in (now (file .entry)))) ⌝ }
+{
+    let Some(&teams) = file.first() else {
+        return Err(Refusal::TableTeams);
+    };
+    let teams = teams as usize;
+    if teams < 2 || teams > MOST_TEAMS {
+        return Err(Refusal::TableTeams);
+    }
+    let games = file.len().saturating_sub(1 + 2 * teams) / 2;
+    Ok(Sizes { teams, games })
+}
+
+// Refuses lent memory that is too short: the row of games first, then the points.
+fn check_memory(sizes: Sizes, row: usize, points: usize) -> Result<Sizes, Refusal>
+    ensures { λ r. ⌜ told r ≡ memory-checked sizes row points (given sizes) ⌝ }
+{
+    if row < sizes.games.min(MOST_GAMES) {
+        return Err(Refusal::MemoryShort(Lent::Row));
+    }
+    if points < sizes.teams {
+        return Err(Refusal::MemoryShort(Lent::Points));
+    }
+    Ok(sizes)
+}
+
+// Refuses a file that ends before its points are whole.
+fn check_points_whole(file: &[u8], sizes: Sizes) -> Result<Sizes, Refusal>
+    requires { ⌜ sizes .teams ≤ 64 ⌝ }
+    ensures { λ r. ⌜ told r ≡ points-whole (now (file .entry)) sizes (given sizes) ⌝ }
+{
+    if file.len() < 1 + 2 * sizes.teams {
+        return Err(Refusal::FileEnds(file.len()));
+    }
+    Ok(sizes)
+}
+
+// Refuses points above 1,000.
+fn check_points(bytes: &[u8], sizes: Sizes) -> Result<Sizes, Refusal>
+    requires { ⌜ sizes .teams ≤ length (now bytes) / 2 ⌝ }
+    ensures { λ r. ⌜ told r ≡ unless-at (above (now (bytes .entry))) (sizes .teams) 4 (given sizes) ⌝ }
+{
+    for team in 0..sizes.teams {
+        if points_at(bytes, team) > MOST_POINTS {
+            return Err(Refusal::PointsAbove(team));
+        }
+    }
+    Ok(sizes)
+}
+
+// Refuses games that are not two bytes each, and more than 1,024 of them.
+fn check_games_whole(file: &[u8], sizes: Sizes) -> Result<Sizes, Refusal>
+    requires { ⌜ 1 + 2 * sizes .teams ≤ length (now file) ⌝ }
+    ensures { λ r. ⌜ told r ≡ games-whole (now (file .entry)) sizes (given sizes) ⌝ }
+{
+    if (file.len() - (1 + 2 * sizes.teams)) % 2 != 0 || sizes.games > MOST_GAMES {
+        return Err(Refusal::GamesLength(file.len()));
+    }
+    Ok(sizes)
+}
+
+// Refuses a game with a team that is not there.
+fn check_teams_there(bytes: &[u8], sizes: Sizes) -> Result<Sizes, Refusal>
+    requires { ⌜ sizes .games ≤ length (now bytes) / 2 ⌝ }
+    ensures { λ r. ⌜ told r ≡ unless-at (absent (now (bytes .entry)) (sizes .teams)) (sizes .games) 6 (given sizes) ⌝ }
+{
+    for k in 0..sizes.games {
+        let game = whole_game(bytes, k);
+        if game.host as usize >= sizes.teams || game.guest as usize >= sizes.teams {
+            return Err(Refusal::NoSuchTeam(k));
+        }
+    }
+    Ok(sizes)
+}
+
+// Refuses a game of a team with itself.
+fn check_two_teams(bytes: &[u8], sizes: Sizes) -> Result<Sizes, Refusal>
+    requires { ⌜ sizes .games ≤ length (now bytes) / 2 ⌝ }
+    ensures { λ r. ⌜ told r ≡ unless-at (alone (now (bytes .entry))) (sizes .games) 7 (given sizes) ⌝ }
+{
+    for k in 0..sizes.games {
+        let game = whole_game(bytes, k);
+        if game.host == game.guest {
+            return Err(Refusal::AgainstItself(k));
+        }
+    }
+    Ok(sizes)
+}
+
+// The checks of a table's file, one after the other.
+fn check_file(file: &[u8], row: usize, points: usize) -> Result<Sizes, Refusal>
+    ensures { λ r. ⌜ told r ≡ outcome (now (file .entry)) row points ⌝ }
+{
+    let checked = check_teams(file);
+    let Ok(sizes) = checked else {
+        return checked;
+    };
+    let checked = check_memory(sizes, row, points);
+    let Ok(sizes) = checked else {
+        return checked;
+    };
+    let checked = check_points_whole(file, sizes);
+    let Ok(sizes) = checked else {
+        return checked;
+    };
+    let checked = check_points(&file[1..], sizes);
+    let Ok(sizes) = checked else {
+        return checked;
+    };
+    let checked = check_games_whole(file, sizes);
+    let Ok(sizes) = checked else {
+        return checked;
+    };
+    let games = &file[1 + 2 * sizes.teams..];
+    let checked = check_teams_there(games, sizes);
+    let Ok(sizes) = checked else {
+        return checked;
+    };
+    check_two_teams(games, sizes)
+}
+
+fn write_points(bytes: &[u8], points: &mut [u16], teams: usize)
+    requires whole { ⌜ teams ≤ length (now bytes) / 2 ⌝ }
+    requires room { ⌜ teams ≤ length (now points) ⌝ }
+    ensures { λ _. ⌜ now (points .exit) ≡ map (number-at (now (bytes .entry))) (counting 0 teams) ++ drop teams (now (points .entry)) ⌝ }
+{
+    for team in 0..teams {
+        points[team] = points_at(bytes, team);
+    }
+}
+
+fn write_games(bytes: &[u8], row: &mut [Game], games: usize)
+    requires whole { ⌜ games ≤ length (now bytes) / 2 ⌝ }
+    requires room { ⌜ games ≤ length (now row) ⌝ }
+    ensures { λ _. ⌜ now (row .exit) ≡ map (game-at (now (bytes .entry))) (counting 0 games) ++ drop games (now (row .entry)) ⌝ }
+{
+    for k in 0..games {
+        row[k] = whole_game(bytes, k);
+    }
+}
+
+// Reads a table's file into lent memory: the points of each team, and the row of games left. Answers the sizes, or the refusal of
+// the first check that applies, and then nothing lent has changed.
+pub fn read_table(file: &[u8], points: &mut [u16], row: &mut [Game]) -> Result<Sizes, Refusal>
+    ensures answer { λ r. ⌜ told r ≡ outcome (now (file .entry)) (length (now (row .entry))) (length (now (points .entry))) ⌝ }
+    ensures points { λ r. ⌜ now (points .exit) ≡ points-after (told r) (now (file .entry)) (now (points .entry)) ⌝ }
+    ensures games { λ r. ⌜ now (row .exit) ≡ games-after (told r) (now (file .entry)) (now (row .entry)) ⌝ }
+{
+    let checked = check_file(file, row.len(), points.len());
+    let Ok(sizes) = checked else {
+        return checked;
+    };
+    write_points(&file[1..], points, sizes.teams);
+    write_games(&file[1 + 2 * sizes.teams..], row, sizes.games);
+    Ok(sizes)
+}
