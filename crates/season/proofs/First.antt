@@ -1,13 +1,35 @@
 -- A loop that stops at the first place where a test holds: at each turn, what is found from here on is what is found from 0 on.
 use mathlib.Core.Path.{_≡_, refl, sym, _∙_}
 use mathlib.Core.Bool.{Bool, true, false, cond}
-use Prim.Native.Nat.{ℕ, suc, _+_, _-_, _≤_, _<_}
+use mathlib.Core.Logic.{inl, inr}
+use Prim.Native.Nat.{ℕ, zero, suc, _+_, _-_, _≤_, _<_}
 use native.Mathlib.Omega.{arith}
 use native.Mathlib.Numerals.{add-one}
 use lib.Dec.{ltb}
-use Rattle.std.proofs.shelf.Tests.{lt-ltb, le-ltb}
+use Rattle.std.proofs.shelf.Tests.{lt-ltb, le-ltb, cases-bool, cases-eq}
 use Rattle.season.specs.Reading.{first, unless-at}
 use Rattle.season.specs.Refused.{Told, refused}
+
+-- where the first place is past the end, the test holds nowhere
+pub none-before : (p : ℕ → Bool) (k n : ℕ) → k + n ≤ first p k n → (j : ℕ) → k ≤ j → j < k + n → p j ≡ false
+none-before p k zero h j low high = absurd (omega arith)
+none-before p k (suc n) h j low high =
+    elim (cases-bool (p k)) [
+      | inl t ↦ let stop : k + suc n ≤ k = rw t at h in absurd (omega arith)
+      | inr f ↦
+          let on : k + suc n ≤ first p (suc k) n = rw f at h in
+          elim (cases-eq k j) [
+            | inl e ↦ rw e at f
+            | inr ne ↦ none-before p (suc k) n (omega arith) j (omega arith) (omega arith)
+          ]
+    ]
+
+-- where the test holds nowhere, the first place is the end
+pub first-none : (p : ℕ → Bool) (k n : ℕ) → ((j : ℕ) → k ≤ j → j < k + n → p j ≡ false) → first p k n ≡ k + n
+first-none p k zero none = omega arith
+first-none p k (suc n) none =
+    let rest = first-none p (suc k) n (λ j low high. none j (omega arith) (omega arith)) in
+    rw (none k (omega arith) (omega arith)) (omega (arith, rest))
 
 -- none of the places before k of n was the first
 abbrev pub Passed : (ℕ → Bool) → ℕ → ℕ → Type 0

@@ -1,3 +1,9 @@
 -- Lemmas of the season.
+pub mod Encodes
+pub mod Exact
 pub mod First
+pub mod Pairs
+pub mod ReadBack
+pub mod Tables
+pub mod Taken
 pub mod Written

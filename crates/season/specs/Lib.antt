@@ -1,5 +1,6 @@
 -- The words of the season: definitions that the contracts cite.
 pub mod Bytes
+pub mod Encoding
 pub mod Plan
 pub mod Promise
 pub mod Reading

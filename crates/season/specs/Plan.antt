@@ -59,6 +59,7 @@ ahead m r i = rest m (i + m - r)
 -- the plan by circles: with m = n - 1, in round r team m plays team r, and r + k plays r - k modulo m
 unfoldable pub circle : ℕ → Plan
 circle n = record {
-    against = λ r i. pick (eqb i (n - 1)) r (pick (eqb i r) (n - 1) (rest (n - 1) (r + (n - 1) - ahead (n - 1) r i)));
-    home = λ r i. pick (eqb i (n - 1)) (eqb (r % 2) 0) (pick (eqb i r) (eqb (r % 2) 1)
-        (pick (ltb (2 * ahead (n - 1) r i) n) (eqb (ahead (n - 1) r i % 2) 1) (eqb ((n - 1 - ahead (n - 1) r i) % 2) 0))) }
+  against = λ r i. pick (eqb i (n - 1)) r (pick (eqb i r) (n - 1) (rest (n - 1) (r + (n - 1) - ahead (n - 1) r i)));
+  home = λ r i. pick (eqb i (n - 1)) (eqb (r % 2) 0) (pick (eqb i r) (eqb (r % 2) 1)
+      (pick (ltb (2 * ahead (n - 1) r i) n) (eqb (ahead (n - 1) r i % 2) 1) (eqb ((n - 1 - ahead (n - 1) r i) % 2) 0)));
+}

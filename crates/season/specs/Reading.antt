@@ -33,9 +33,29 @@ games-in file = drop (1 + 2 * teams-in file) file
 abbrev pub sizes-in : List ℕ → Sizes
 sizes-in file = record { teams = teams-in file; games = (length file - (1 + 2 * teams-in file)) / 2 }
 
+-- fewer than 2 or more than 64 teams
+abbrev pub unserved : ℕ → Bool
+unserved teams = ltb teams 2 || ltb 64 teams
+
+-- room for too few games; a row of more than 1,024 is refused anyway
+abbrev pub row-short : Sizes → ℕ → Bool
+row-short s row = ltb row (min (s .games) 1024)
+
+-- room for the points of too few teams
+abbrev pub points-short : Sizes → ℕ → Bool
+points-short s points = ltb points (s .teams)
+
+-- the file ends before its points are whole
+abbrev pub cut : List ℕ → Sizes → Bool
+cut file s = ltb (length file) (1 + 2 * s .teams)
+
 -- points above 1,000
 abbrev pub above : List ℕ → ℕ → Bool
 above bytes team = ltb 1000 (number-at bytes team)
+
+-- games that are not two bytes each, or more than 1,024
+abbrev pub uneven : List ℕ → Sizes → Bool
+uneven file s = not (eqb ((length file - (1 + 2 * s .teams)) % 2) 0) || ltb 1024 (s .games)
 
 -- a game with a team that is not there
 abbrev pub absent : List ℕ → ℕ → ℕ → Bool
@@ -45,37 +65,21 @@ absent bytes teams k = not (ltb (game-at bytes k .host) teams && ltb (game-at by
 abbrev pub alone : List ℕ → ℕ → Bool
 alone bytes k = eqb (game-at bytes k .host) (game-at bytes k .guest)
 
--- 2: fewer than 2 or more than 64 teams
-abbrev pub teams-checked : List ℕ → Told Sizes → Told Sizes
-teams-checked file after = unless (ltb (teams-in file) 2 || ltb 64 (teams-in file)) 2 0 after
-
--- 10: room for too few games, or for too few points
-abbrev pub memory-checked : Sizes → ℕ → ℕ → Told Sizes → Told Sizes
-memory-checked s row points after =
-    unless (ltb row (min (s .games) 1024)) 10 0 (unless (ltb points (s .teams)) 10 1 after)
-
--- 3: a file that ends before its points are whole
-abbrev pub points-whole : List ℕ → Sizes → Told Sizes → Told Sizes
-points-whole file s after = unless (ltb (length file) (1 + 2 * s .teams)) 3 (length file) after
-
--- 5: games that are not two bytes each, or more than 1,024
-abbrev pub games-whole : List ℕ → Sizes → Told Sizes → Told Sizes
-games-whole file s after =
-    unless (not (eqb ((length file - (1 + 2 * s .teams)) % 2) 0) || ltb 1024 (s .games)) 5 (length file) after
-
--- the checks in their order, with s the sizes that the file's first byte and its length give
+-- the checks in their order: of the sizes that the file's first byte and its length give, with room for a row of so many
+-- games and for the points of so many teams
 abbrev pub checked : List ℕ → Sizes → ℕ → ℕ → Told Sizes
 checked file s row points =
-    teams-checked file
-    (memory-checked s row points
-    (points-whole file s
+    unless (unserved (s .teams)) 2 0
+    (unless (row-short s row) 10 0
+    (unless (points-short s points) 10 1
+    (unless (cut file s) 3 (length file)
     (unless-at (above (points-in file)) (s .teams) 4
-    (games-whole file s
+    (unless (uneven file s) 5 (length file)
     (unless-at (absent (games-in file) (s .teams)) (s .games) 6
     (unless-at (alone (games-in file)) (s .games) 7
-    (given s)))))))
+    (given s))))))))
 
--- the answer of the reader, with room for a row of so many games and for the points of so many teams
+-- the answer of the reader
 abbrev pub outcome : List ℕ → ℕ → ℕ → Told Sizes
 outcome file row points = checked file (sizes-in file) row points
 

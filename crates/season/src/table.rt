@@ -6,7 +6,8 @@ ghost use mathlib.Core.List.{_++_, map};
 ghost use Prim.Native.Nat.{_+_, _*_, _/_, _<_, _≤_};
 ghost use lib.ListN.{length, drop};
 ghost use Rattle.season.specs.Bytes.{number-at, game-at};
-ghost use Rattle.season.specs.Reading.{outcome, points-after, games-after, teams-checked, memory-checked, points-whole, games-whole, unless-at, above, absent, alone, sizes-in, teams-in, points-in, games-in};
+ghost use Rattle.season.specs.Encoding.{Exact};
+ghost use Rattle.season.specs.Reading.{outcome, points-after, games-after, unless-at, unserved, row-short, points-short, cut, above, uneven, absent, alone, sizes-in, teams-in};
 ghost use Rattle.season.specs.Refused.{told, given, unless};
 ghost use Rattle.std.specs.Iters.{counting};
 use crate::game::Game;
@@ -36,7 +37,7 @@ fn points_at(bytes: &[u8], team: usize) -> u16
 
 // Refuses fewer than 2 and more than 64 teams; else the sizes that the file's length gives.
 fn check_teams(file: &[u8]) -> Result<Sizes, Refusal>
-    ensures { λ r. ⌜ told r ≡ teams-checked (now (file .entry)) (given (sizes-in (now (file .entry)))) ⌝ }
+    ensures { λ r. ⌜ told r ≡ unless (unserved (teams-in (now (file .entry)))) 2 0 (given (sizes-in (now (file .entry)))) ⌝ }
 {
     let Some(&teams) = file.first() else {
         return Err(Refusal::TableTeams);
@@ -51,7 +52,7 @@ fn check_teams(file: &[u8]) -> Result<Sizes, Refusal>
 
 // Refuses lent memory that is too short: the row of games first, then the points.
 fn check_memory(sizes: Sizes, row: usize, points: usize) -> Result<Sizes, Refusal>
-    ensures { λ r. ⌜ told r ≡ memory-checked sizes row points (given sizes) ⌝ }
+    ensures { λ r. ⌜ told r ≡ unless (row-short sizes row) 10 0 (unless (points-short sizes points) 10 1 (given sizes)) ⌝ }
 {
     if row < sizes.games.min(MOST_GAMES) {
         return Err(Refusal::MemoryShort(Lent::Row));
@@ -65,7 +66,7 @@ fn check_memory(sizes: Sizes, row: usize, points: usize) -> Result<Sizes, Refusa
 // Refuses a file that ends before its points are whole.
 fn check_points_whole(file: &[u8], sizes: Sizes) -> Result<Sizes, Refusal>
     requires { ⌜ sizes .teams ≤ 64 ⌝ }
-    ensures { λ r. ⌜ told r ≡ points-whole (now (file .entry)) sizes (given sizes) ⌝ }
+    ensures { λ r. ⌜ told r ≡ unless (cut (now (file .entry)) sizes) 3 (length (now (file .entry))) (given sizes) ⌝ }
 {
     if file.len() < 1 + 2 * sizes.teams {
         return Err(Refusal::FileEnds(file.len()));
@@ -89,7 +90,7 @@ fn check_points(bytes: &[u8], sizes: Sizes) -> Result<Sizes, Refusal>
 // Refuses games that are not two bytes each, and more than 1,024 of them.
 fn check_games_whole(file: &[u8], sizes: Sizes) -> Result<Sizes, Refusal>
     requires { ⌜ 1 + 2 * sizes .teams ≤ length (now file) ⌝ }
-    ensures { λ r. ⌜ told r ≡ games-whole (now (file .entry)) sizes (given sizes) ⌝ }
+    ensures { λ r. ⌜ told r ≡ unless (uneven (now (file .entry)) sizes) 5 (length (now (file .entry))) (given sizes) ⌝ }
 {
     if (file.len() - (1 + 2 * sizes.teams)) % 2 != 0 || sizes.games > MOST_GAMES {
         return Err(Refusal::GamesLength(file.len()));
@@ -183,6 +184,7 @@ pub fn read_table(file: &[u8], points: &mut [u16], row: &mut [Game]) -> Result<S
     ensures answer { λ r. ⌜ told r ≡ outcome (now (file .entry)) (length (now (row .entry))) (length (now (points .entry))) ⌝ }
     ensures points { λ r. ⌜ now (points .exit) ≡ points-after (told r) (now (file .entry)) (now (points .entry)) ⌝ }
     ensures games { λ r. ⌜ now (row .exit) ≡ games-after (told r) (now (file .entry)) (now (row .entry)) ⌝ }
+    ensures exact { λ r. ⌜ Exact (now (file .entry)) r (now (points .exit)) (now (row .exit)) ⌝ }
 {
     let checked = check_file(file, row.len(), points.len());
     let Ok(sizes) = checked else {
