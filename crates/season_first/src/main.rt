@@ -1,0 +1,90 @@
+// Reads a table's file, and says what it holds.
+use season::game::Game;
+use season::refusal::RefusalDisplay;
+use season::table::read_table;
+use std::env;
+use std::fs;
+use std::io;
+use std::io::Read;
+
+const USAGE: &str = "\
+usage: season_first [FILE]
+
+Reads a table's file, or standard input where no file is named, and says how many teams it has and how many games are left.
+The file has the number of teams in one byte, two bytes of points for each team, the low one first, and then host and guest
+of each game left, one byte each. It may have 2 to 32 teams and 256 games.
+Prints `refused NUMBER at PLACE` for a file that breaks a rule, and ends with status 1.
+
+example: season_first table.bin";
+
+// The most teams and games that this program has memory for.
+const TEAMS: usize = 32;
+
+const GAMES: usize = 256;
+
+// What the words of the call ask for.
+#[derive(Drop)]
+enum Asked {
+    Help,
+    Input,
+    File(String),
+    Unclear(String),
+}
+
+fn read_words(rt: &LibcRuntime) -> io::Result<Asked> {
+    let mut words = env::args(rt)?.skip(1);
+    let Some(word) = words.next() else {
+        return Ok(Asked::Input);
+    };
+    if let Some(more) = words.next() {
+        return Ok(Asked::Unclear(format!(rt.alloc(), "one file is expected, and `{more}` is too much")?));
+    }
+    if word.as_str() == "--help" || word.as_str() == "-h" {
+        return Ok(Asked::Help);
+    }
+    Ok(Asked::File(word))
+}
+
+// Ends the program with status 1, once it has said why.
+fn stop() -> io::Result<()> {
+    Err(io::Error::from(io::ErrorKind::InvalidInput))
+}
+
+// Prints what the file holds, or the refusal.
+fn tell(rt: &LibcRuntime, file: &[u8]) -> io::Result<()> {
+    let mut points = [0u16; TEAMS];
+    let mut row = [Game { host: 0, guest: 0 }; GAMES];
+    match read_table(file, &mut points, &mut row) {
+        Ok(sizes) => {
+            let teams = sizes.teams;
+            let games = sizes.games;
+            println!(rt, "teams {teams}, games left {games}")
+        }
+        Err(refusal) => {
+            println!(rt, "{refusal}")?;
+            stop()
+        }
+    }
+}
+
+fn main(rt: LibcRuntime) -> io::Result<()> {
+    match read_words(&rt)? {
+        Asked::Help => println!(rt, "{USAGE}"),
+        Asked::Unclear(why) => {
+            eprintln!(rt, "season_first: {why}\n\n{USAGE}")?;
+            stop()
+        }
+        Asked::Input => {
+            let mut file = Vec::new(rt.alloc());
+            rt.stdin().read_to_end(&mut file)?;
+            tell(&rt, &file)
+        }
+        Asked::File(path) => match fs::read(&rt, path.as_str()) {
+            Ok(file) => tell(&rt, &file),
+            Err(why) => {
+                eprintln!(rt, "season_first: {path}: {why}")?;
+                stop()
+            }
+        },
+    }
+}

@@ -1,0 +1,82 @@
+// Says of a number of teams whether a plan can be made for it.
+ghost use mathlib.Core.Path.{_≡_};
+ghost use Prim.Native.Nat.{_^_, _<_};
+ghost use Rattle.std.specs.Reads.{Numeral, value, afterPlus};
+ghost use Rattle.std.specs.declared.option.Option.the-variants.{Some};
+use season::plan::plan_teams;
+use season::refusal::RefusalDisplay;
+use std::env;
+use std::io;
+use std::num::IntErrorKind;
+
+const USAGE: &str = "\
+usage: season_plan TEAMS
+
+Says for how many teams and rounds a plan is made: an even number of teams from 2 to 64.
+Prints `refused 1 at 0` for any other number, and ends with status 1.
+
+example: season_plan 20";
+
+// What the words of the call ask for.
+#[derive(Drop)]
+enum Asked {
+    Help,
+    Teams(usize),
+    Unclear(String),
+}
+
+// The number that a text writes. One that is too large for the machine counts as the largest, which is refused all the same.
+fn number_in(text: &str) -> Option<usize>
+    ensures { λ r. ⌜ (Numeral 10 (afterPlus (now (text .entry))) → value 10 (afterPlus (now (text .entry))) < 2 ^ 64 → r ≡ Some (value 10 (afterPlus (now (text .entry))))) ⌝ }
+{
+    match text.parse::<usize>() {
+        Ok(n) => Some(n),
+        Err(e) => match e.kind() {
+            IntErrorKind::PosOverflow => Some(usize::MAX),
+            _ => None,
+        },
+    }
+}
+
+fn read_words(rt: &LibcRuntime) -> io::Result<Asked> {
+    let heap = rt.alloc();
+    let mut words = env::args(rt)?.skip(1);
+    let Some(word) = words.next() else {
+        return Ok(Asked::Unclear(String::from_str(heap, "no number of teams is given")?));
+    };
+    if let Some(more) = words.next() {
+        return Ok(Asked::Unclear(format!(heap, "one number of teams is expected, and `{more}` is too much")?));
+    }
+    if word.as_str() == "--help" || word.as_str() == "-h" {
+        return Ok(Asked::Help);
+    }
+    match number_in(word.as_str()) {
+        Some(n) => Ok(Asked::Teams(n)),
+        None => Ok(Asked::Unclear(format!(heap, "`{word}` is no number of teams")?)),
+    }
+}
+
+// Ends the program with status 1, once it has said why.
+fn stop() -> io::Result<()> {
+    Err(io::Error::from(io::ErrorKind::InvalidInput))
+}
+
+fn main(rt: LibcRuntime) -> io::Result<()> {
+    match read_words(&rt)? {
+        Asked::Help => println!(rt, "{USAGE}"),
+        Asked::Unclear(why) => {
+            eprintln!(rt, "season_plan: {why}\n\n{USAGE}")?;
+            stop()
+        }
+        Asked::Teams(n) => match plan_teams(n) {
+            Ok(teams) => {
+                let rounds = teams - 1;
+                println!(rt, "teams {teams}, rounds {rounds}")
+            }
+            Err(refusal) => {
+                println!(rt, "{refusal}")?;
+                stop()
+            }
+        },
+    }
+}
