@@ -12,7 +12,7 @@ usage: season_first [FILE]
 
 Reads a table's file, or standard input where no file is named, and says how many teams it has and how many games are left.
 The file has the number of teams in one byte, two bytes of points for each team, the low one first, and then host and guest
-of each game left, one byte each. It may have 2 to 32 teams and 256 games.
+of each game left, one byte each. It may have 2 to 32 teams, and up to 256 games.
 Prints `refused NUMBER at PLACE` for a file that breaks a rule, and ends with status 1.
 
 example: season_first table.bin";
