@@ -1,16 +1,16 @@
 -- A file that is taken is the file of the table that is read, and that table is within the limits.
-use mathlib.Core.Path.{_≡_, refl, sym, _∙_, ap}
-use mathlib.Core.List.{List, [], _∷_, _++_, map}
-use Prim.Native.Nat.{ℕ, _+_, _*_, _-_, _/_, _%_, _≤_, _<_}
+use mathlib.Core.Path.{_≡_, refl, sym, _∙_}
+use mathlib.Core.List.{List, map}
+use Prim.Native.Nat.{ℕ, _+_, _*_, _/_, _%_, _≤_, _<_}
 use native.Mathlib.Omega.{arith}
-use lib.ListN.{length, getD, take, drop}
+use lib.ListN.{length, getD, take}
 use Rattle.std.specs.Iters.{counting}
 use Rattle.std.proofs.shelf.Counted.{length-map-counting, getD-map-counting}
 use Rattle.std.proofs.shelf.Lists.{length-drop, getD-drop, drop-drop, drop-more, take-all, take-append-drop}
 use Rattle.season.specs.Bytes.{number-at, game-at}
-use Rattle.season.specs.Encoding.{Within, Taken-encodes, pairs, encoded, match-of, table-in}
+use Rattle.season.specs.Encoding.{Within, Taken-encodes, points-bytes, match-bytes, encoded, match-of, table-in}
 use Rattle.season.specs.Reading.{teams-in, points-in, games-in, sizes-in}
-use Rattle.season.specs.Table.{Match, Table}
+use Rattle.season.specs.Table.{Match}
 use Rattle.season.proofs.Pairs.{pairs-read}
 use Rattle.season.proofs.Taken.{Taken, taken}
 
@@ -35,17 +35,21 @@ module _ {file : List ℕ} {row points : ℕ} (h : Taken file row points) where
   }
 
   module _ (bytes : (i : ℕ) → getD file i 0 < 256) where
-    points-written : pairs (λ p. p % 256) (λ p. p / 256) (map (table-in file .points) (counting 0 (teams-in file))) ≡ take (2 * teams-in file) (points-in file)
+    points-written :
+        points-bytes (map (table-in file .points) (counting 0 (teams-in file)))
+        ≡ take (2 * teams-in file) (points-in file)
     points-written =
         let byte : (i : ℕ) → getD (points-in file) i 0 < 256 = λ i. rw (getD-drop 1 file i 0) (bytes (1 + i)) in
         let long : 2 * teams-in file ≤ length (points-in file) = rw (length-drop 1 file) (omega (arith, h .whole)) in
         pairs-read (λ p. p % 256) (λ p. p / 256) (number-at (points-in file)) (points-in file) (teams-in file)
         (λ k. omega (arith, byte (2 * k))) (λ k. omega (arith, byte (2 * k))) long
 
-    games-written : pairs (λ m. m .host) (λ m. m .guest) (table-in file .left) ≡ games-in file
+    games-written : match-bytes (table-in file .left) ≡ games-in file
     games-written =
-        let long : length (games-in file) ≡ 2 * sizes-in file .games = rw (length-drop (1 + 2 * teams-in file) file) (omega (arith, h .whole)) in
-        let read = pairs-read (λ m. m .host) (λ m. m .guest) (λ k. match-of (game-at (games-in file) k)) (games-in file) (sizes-in file .games)
+        let long : length (games-in file) ≡ 2 * sizes-in file .games =
+        rw (length-drop (1 + 2 * teams-in file) file) (omega (arith, h .whole)) in
+        let read = pairs-read (λ m. m .host) (λ m. m .guest)
+        (λ k. match-of (game-at (games-in file) k)) (games-in file) (sizes-in file .games)
         (λ k. refl) (λ k. refl) (omega (arith, long)) in
         let all = take-all (2 * sizes-in file .games) (games-in file) (omega (arith, long)) in
         read ∙ all

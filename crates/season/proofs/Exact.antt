@@ -11,8 +11,8 @@ use Rattle.season.specs.declared.game.Game.{Game}
 use Rattle.season.specs.declared.refusal.Refusal.{Refusal}
 use Rattle.season.specs.declared.table.Sizes.{Sizes}
 use Rattle.season.specs.Encoding.{Exact, sizes-of}
-use Rattle.season.specs.Reading.{outcome, row-short, points-short, sizes-in, points-after, games-after}
-use Rattle.season.specs.Refused.{given, refused, unless, told, number-of, place-of}
+use Rattle.season.specs.Reading.{outcome, row-short, points-short, points-after, games-after}
+use Rattle.season.specs.Refused.{given, refused, unless, told}
 use Rattle.season.proofs.Encodes.{taken-encodes}
 use Rattle.season.proofs.ReadBack.{read-back}
 use Rattle.season.proofs.Tables.{same-read, within-same, encoded-same}
@@ -30,7 +30,7 @@ pub exact-refused : (file : List ℕ) (row points : ℕ) (r : Result Sizes Refus
 exact-refused file row points (Ok s) old older e not-ok = absurd (not-ok s refl)
 exact-refused file row points (Err f) old older e not-ok = λ t w same.
     let here = e ∙ sym (ap (λ bytes. outcome bytes row points) same) ∙ read-back t w row points .0 in
-    only-memory (row-short (sizes-of t) row) (points-short (sizes-of t) points) (sizes-of t) (number-of f) (place-of f) here
+    only-memory (row-short (sizes-of t) row) (points-short (sizes-of t) points) _ _ _ here
 
 pub exact-taken : (file : List ℕ) (row points : ℕ) (s : Sizes) (old now : List ℕ) (older newer : List Game) →
     ((i : ℕ) → getD file i 0 < 256) → given s ≡ outcome file row points →

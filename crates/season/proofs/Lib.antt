@@ -4,6 +4,7 @@ pub mod Exact
 pub mod First
 pub mod Pairs
 pub mod ReadBack
+pub mod Refusals
 pub mod Tables
 pub mod Taken
 pub mod Written

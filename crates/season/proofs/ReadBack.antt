@@ -1,19 +1,20 @@
 -- The file of a table within the limits passes every check, and the table read is that one.
 use mathlib.Core.Path.{_≡_, refl, sym, _∙_, ap}
-use mathlib.Core.Bool.{Bool, false, not}
-use mathlib.Core.List.{List, [], _∷_, _++_, map, map-map}
-use Prim.Native.Nat.{ℕ, suc, _+_, _*_, _-_, _/_, _%_, _≤_, _<_}
+use mathlib.Core.Bool.{Bool, false}
+use mathlib.Core.List.{List, [], map}
+use Prim.Native.Nat.{ℕ, suc, _+_, _*_, _-_, _/_, _%_, _<_}
 use native.Mathlib.Omega.{arith}
-use lib.Dec.{ltb, eqb}
-use lib.ListN.{length, getD, drop}
+use lib.Dec.{ltb}
+use lib.ListN.{length, getD}
 use Rattle.std.specs.Iters.{counting}
 use Rattle.std.proofs.shelf.Counted.{length-map-counting, getD-map-counting, fill-by-all}
 use Rattle.std.proofs.shelf.Lists.{length-append, append-nil, drop-at}
-use Rattle.std.proofs.shelf.Tests.{le-ltb, lt-ltb, eq-eqb, ne-eqb, or-from, and-from, cond-false, not-from-true}
+use Rattle.std.proofs.shelf.Tests.{le-ltb, lt-leb, ne-eqb, or-from, cond-false}
 use Rattle.season.specs.declared.table.Sizes.{Sizes}
 use Rattle.season.specs.Bytes.{number-at, game-at}
-use Rattle.season.specs.Encoding.{Within, Same, Read-back, pairs, encoded, match-of, table-in, sizes-of}
-use Rattle.season.specs.Reading.{first, unless-at, outcome, checked, row-short, points-short, unserved, cut, above, uneven, absent, alone, teams-in, points-in, games-in, sizes-in}
+use Rattle.season.specs.Encoding.{Within, Same, Read-back, points-bytes, match-bytes, encoded, match-of, table-in, sizes-of}
+use Rattle.season.specs.Reading.{first, outcome, checked, unless-at, unless-short, points-in, games-in, sizes-in}
+use Rattle.season.specs.Reading.{unserved, cut, above, uneven, absent, alone}
 use Rattle.season.specs.Refused.{Told, given, refused, unless}
 use Rattle.season.specs.Table.{Match, Table}
 use Rattle.season.proofs.First.{first-none}
@@ -35,30 +36,27 @@ module _ (t : Table) (w : Within t) where
   abbrev points-list : List ℕ
   points-list = map (t .points) (counting 0 (t .teams))
 
-  length-points : length (pairs (λ p. p % 256) (λ p. p / 256) points-list) ≡ 2 * t .teams
+  length-points : length (points-bytes points-list) ≡ 2 * t .teams
   length-points = length-pairs (λ p. p % 256) (λ p. p / 256) points-list ∙ rw length-map-counting
 
   length-file : length (encoded t) ≡ 1 + 2 * t .teams + 2 * length (t .left)
-  length-file =
-      rw length-append
-      (omega (arith, length-points, length-pairs (λ m. m .host) (λ m. m .guest) (t .left)))
+  length-file = rw length-append (omega (arith, length-points, length-pairs (λ m. m .host) (λ m. m .guest) (t .left)))
 
   sizes : sizes-in (encoded t) ≡ sizes-of t
   sizes =
       let e : (length (encoded t) - (1 + 2 * t .teams)) / 2 ≡ length (t .left) = omega (arith, length-file) in
       λ i. record { teams = t .teams; games = e i }
 
-  games : games-in (encoded t) ≡ pairs (λ m. m .host) (λ m. m .guest) (t .left)
+  games : games-in (encoded t) ≡ match-bytes (t .left)
   games =
       let s : 1 + 2 * t .teams ≡ suc (2 * t .teams) = omega arith in
-      rw s (drop-at _ (pairs (λ m. m .host) (λ m. m .guest) (t .left)) (2 * t .teams) length-points)
+      rw s (drop-at _ (match-bytes (t .left)) (2 * t .teams) length-points)
 
   points-at : (i : ℕ) → i < t .teams → number-at (points-in (encoded t)) i ≡ t .points i
   points-at i l =
       let long : i < length points-list = rw length-map-counting l in
-      let ys = pairs (λ m. m .host) (λ m. m .guest) (t .left) in
-      let low = pairs-even (λ p. p % 256) (λ p. p / 256) points-list ys i 0 long in
-      let high = pairs-odd (λ p. p % 256) (λ p. p / 256) points-list ys i 0 long in
+      let low = pairs-even (λ p. p % 256) (λ p. p / 256) points-list (match-bytes (t .left)) i 0 long in
+      let high = pairs-odd (λ p. p % 256) (λ p. p / 256) points-list (match-bytes (t .left)) i 0 long in
       let here = getD-map-counting (t .points) 0 (t .teams) i i 0 l (omega arith) in
       omega (arith, low, high, here)
 
@@ -80,7 +78,7 @@ module _ (t : Table) (w : Within t) where
   not-uneven : uneven (encoded t) (sizes-of t) ≡ false
   not-uneven =
       let even : (length (encoded t) - (1 + 2 * t .teams)) % 2 ≡ 0 = omega (arith, length-file) in
-      or-from _ _ (not-from-true _ (eq-eqb _ 0 even)) (le-ltb 1024 (length (t .left)) (w .left-few))
+      or-from _ _ (ne-eqb _ 1 (omega (arith, even))) (le-ltb 1024 (length (t .left)) (w .left-few))
 
   module _ (k : ℕ) (l : k < length (t .left)) where
     not-absent : absent (games-in (encoded t)) (t .teams) k ≡ false
@@ -88,13 +86,12 @@ module _ (t : Table) (w : Within t) where
         let inside = w .sound .inside k none l in
         let host : game-at (games-in (encoded t)) k .host < t .teams = rw (host-at k none l) (inside .0) in
         let guest : game-at (games-in (encoded t)) k .guest < t .teams = rw (guest-at k none l) (inside .1) in
-        not-from-true _ (and-from _ _ (lt-ltb _ _ host) (lt-ltb _ _ guest))
+        or-from _ _ (lt-leb _ _ host) (lt-leb _ _ guest)
 
     not-alone : alone (games-in (encoded t)) k ≡ false
     not-alone = ne-eqb _ _ (rw (host-at k none l, guest-at k none l) (w .sound .inside k none l .2))
 
-  passes : (row points : ℕ) → outcome (encoded t) row points ≡
-      unless (row-short (sizes-of t) row) 10 0 (unless (points-short (sizes-of t) points) 10 1 (given (sizes-of t)))
+  passes : (row points : ℕ) → outcome (encoded t) row points ≡ unless-short (sizes-of t) row points (given (sizes-of t))
   passes row points =
       let s = sizes-of t in
       let rest = pass (cut (encoded t) s) 3 _ _ not-cut
@@ -104,7 +101,7 @@ module _ (t : Table) (w : Within t) where
       ∙ pass-at (alone (games-in (encoded t))) (length (t .left)) 7 (given s) not-alone in
       ap (λ z. checked (encoded t) z row points) sizes
       ∙ pass (unserved (t .teams)) 2 0 _ not-unserved
-      ∙ ap (λ z. unless (row-short s row) 10 0 (unless (points-short s points) 10 1 z)) rest
+      ∙ ap (unless-short s row points) rest
 
   same : Same t (table-in (encoded t))
   same =

@@ -1,17 +1,18 @@
 -- What a file has passed that is taken.
-use mathlib.Core.Path.{_≡_, refl, sym, _∙_}
+use mathlib.Core.Path.{_≡_, refl}
 use mathlib.Core.Logic.{_≢_}
-use mathlib.Core.Bool.{Bool, true, false, cond, not, _&&_, _||_}
+use mathlib.Core.Bool.{Bool, true, false}
 use mathlib.Core.List.{List}
-use Prim.Native.Nat.{ℕ, min, _+_, _*_, _-_, _/_, _%_, _≤_, _<_}
+use Prim.Native.Nat.{ℕ, _+_, _*_, _-_, _%_, _≤_, _<_}
 use native.Mathlib.Omega.{arith}
-use lib.Dec.{ltb, eqb}
+use lib.Dec.{eqb, leb, ltb}
 use lib.ListN.{length}
-use Rattle.std.proofs.shelf.Tests.{ltb-false, eqb-true, eqb-false, or-parts, not-false, and-parts, ltb-true}
+use Rattle.std.proofs.shelf.Tests.{ltb-false, leb-false, eqb-false, or-parts}
 use Rattle.season.specs.declared.table.Sizes.{Sizes}
 use Rattle.season.specs.Bytes.{number-at, game-at}
-use Rattle.season.specs.Reading.{first, unless-at, outcome, teams-in, points-in, games-in, sizes-in, unserved, row-short, points-short, cut, above, uneven, absent, alone}
-use Rattle.season.specs.Refused.{Told, given, refused, unless}
+use Rattle.season.specs.Reading.{first, unless-at, outcome, teams-in, points-in, games-in, sizes-in}
+use Rattle.season.specs.Reading.{unserved, row-short, points-short, cut, above, uneven, absent, alone}
+use Rattle.season.specs.Refused.{Told, given, unless}
 use Rattle.season.proofs.First.{none-before}
 
 pub record Taken (file : List ℕ) (row points : ℕ) : Type 0 where
@@ -28,7 +29,9 @@ pub record Taken (file : List ℕ) (row points : ℕ) : Type 0 where
 
 module _ {A : Type 0} where
   -- a check that was passed
-  passed : (b : Bool) (number place : ℕ) (after : Told A) (s : A) → unless b number place after ≡ given s → (b ≡ false) × (after ≡ given s)
+  passed :
+      (b : Bool) (number place : ℕ) (after : Told A) (s : A) → unless b number place after ≡ given s →
+      (b ≡ false) × (after ≡ given s)
   passed true number place after s e = let z : _≡_ {A = ℕ} 0 1 = cc in absurd (omega arith)
   passed false number place after s e = (refl, e)
 
@@ -39,7 +42,9 @@ module _ {A : Type 0} where
       let past = ltb-false (first p 0 n) n (both .0) in
       ((λ k l. none-before p 0 n (omega arith) k (omega arith) (omega arith)), both .1)
 
-pub taken : (file : List ℕ) (row points : ℕ) (s : Sizes) → outcome file row points ≡ given s → (s ≡ sizes-in file) × Taken file row points
+pub taken :
+    (file : List ℕ) (row points : ℕ) (s : Sizes) → outcome file row points ≡ given s →
+    (s ≡ sizes-in file) × Taken file row points
 taken file row points s e =
     let z = sizes-in file in
     let teams = passed (unserved (teams-in file)) _ _ _ s e in
@@ -51,11 +56,12 @@ taken file row points s e =
     let not-absent = passed-at (absent (games-in file) (teams-in file)) (z .games) _ _ s (not-uneven .1) in
     let not-alone = passed-at (alone (games-in file)) (z .games) _ _ s (not-absent .1) in
     let teams-pass = or-parts (ltb (teams-in file) 2) (ltb 64 (teams-in file)) (teams .0) in
-    let whole-pass = or-parts (not (eqb ((length file - (1 + 2 * teams-in file)) % 2) 0)) (ltb 1024 (z .games)) (not-uneven .0) in
-    let even = eqb-true ((length file - (1 + 2 * teams-in file)) % 2) 0 (not-false _ (whole-pass .0)) in
+    let whole-pass = or-parts (eqb ((length file - (1 + 2 * teams-in file)) % 2) 1) (ltb 1024 (z .games)) (not-uneven .0) in
+    let even = eqb-false ((length file - (1 + 2 * teams-in file)) % 2) 1 (whole-pass .0) in
     let few = ltb-false 1024 (z .games) (whole-pass .1) in
-    let there : (k : ℕ) → k < z .games → (ltb (game-at (games-in file) k .host) (teams-in file) && ltb (game-at (games-in file) k .guest) (teams-in file)) ≡ true
-    = λ k l. not-false _ (not-absent .0 k l) in (
+    let there = λ (k : ℕ) (l : k < z .games).
+    or-parts (leb (teams-in file) (game-at (games-in file) k .host)) (leb (teams-in file) (game-at (games-in file) k .guest))
+    (not-absent .0 k l) in (
       cc,
       record {
         two = ltb-false _ _ (teams-pass .0);
@@ -65,8 +71,8 @@ taken file row points s e =
         low = λ i l. ltb-false _ _ (not-above .0 i l);
         whole = omega (arith, ltb-false _ _ (not-cut .0));
         few = few;
-        host-there = λ k l. ltb-true _ _ (and-parts _ _ (there k l) .0);
-        guest-there = λ k l. ltb-true _ _ (and-parts _ _ (there k l) .1);
+        host-there = λ k l. leb-false _ _ (there k l .0);
+        guest-there = λ k l. leb-false _ _ (there k l .1);
         apart = λ k l. eqb-false _ _ (not-alone .0 k l);
       },
     )

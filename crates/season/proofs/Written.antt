@@ -1,17 +1,17 @@
 -- A loop that writes f k at each place k: what was written, then what stood there.
-use mathlib.Core.Path.{_≡_, refl, sym, _∙_, ap}
-use mathlib.Core.List.{List, [], _∷_, _++_, map, append-assoc}
-use Prim.Native.Nat.{ℕ, _+_, _-_, _≤_, _<_}
+use mathlib.Core.Path.{_≡_, refl}
+use mathlib.Core.List.{List, map, append-assoc}
+use Prim.Native.Nat.{ℕ, _+_, _-_, _<_}
 use native.Mathlib.Omega.{arith}
-use lib.ListN.{length, set, drop, getD}
+use lib.ListN.{length, set, drop}
 use Rattle.std.specs.Iters.{counting}
 use Rattle.std.proofs.shelf.Counted.{length-map-counting, map-counting-more}
 use Rattle.std.proofs.shelf.Lists.{set-append-right, drop-more}
+use Rattle.season.specs.Reading.{written}
 
-abbrev pub written : {X : Type 0} → (ℕ → X) → ℕ → List X → List X
-written f i old = map f (counting 0 i) ++ drop i old
-
-pub written-more : {X : Type 0} (f : ℕ → X) (old xs : List X) (i : ℕ) (y : X) → i < length old → xs ≡ written f i old → y ≡ f i → set xs i y ≡ written f (i + 1) old
+pub written-more :
+    {X : Type 0} (f : ℕ → X) (old xs : List X) (i : ℕ) (y : X) → i < length old →
+    xs ≡ written f i old → y ≡ f i → set xs i y ≡ written f (i + 1) old
 written-more f old xs i y l e h =
     let z : i - i ≡ 0 = omega arith in
     let split = drop-more old i y l in

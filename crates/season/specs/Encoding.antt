@@ -10,8 +10,8 @@ use Rattle.season.specs.declared.game.Game.{Game}
 use Rattle.season.specs.declared.refusal.Refusal.{Refusal}
 use Rattle.season.specs.declared.table.Sizes.{Sizes}
 use Rattle.season.specs.Bytes.{number-at, game-at}
-use Rattle.season.specs.Reading.{outcome, row-short, points-short, teams-in, points-in, games-in, sizes-in}
-use Rattle.season.specs.Refused.{given, unless, number-of}
+use Rattle.season.specs.Reading.{outcome, unless-short, teams-in, points-in, games-in, sizes-in}
+use Rattle.season.specs.Refused.{given, number-of}
 use Rattle.season.specs.Table.{Match, Table, Sound}
 
 -- the limits: 2 to 64 teams, at most 1,000 points each, at most 1,024 matches left, each of two different teams of the table
@@ -27,10 +27,15 @@ abbrev pub pairs : {A : Type 0} → (A → ℕ) → (A → ℕ) → List A → L
 pairs a b [] = []
 pairs a b (x ∷ xs) = a x ∷ b x ∷ pairs a b xs
 
+abbrev pub points-bytes : List ℕ → List ℕ
+points-bytes points = pairs (λ p. p % 256) (λ p. p / 256) points
+
+abbrev pub match-bytes : List Match → List ℕ
+match-bytes matches = pairs (λ m. m .host) (λ m. m .guest) matches
+
 -- the file of a table
 abbrev pub encoded : Table → List ℕ
-encoded t =
-    t .teams ∷ (pairs (λ p. p % 256) (λ p. p / 256) (map (t .points) (counting 0 (t .teams))) ++ pairs (λ m. m .host) (λ m. m .guest) (t .left))
+encoded t = t .teams ∷ (points-bytes (map (t .points) (counting 0 (t .teams))) ++ match-bytes (t .left))
 
 -- the same table: as many teams, each with the same points, and the same matches left
 pub record Same (t u : Table) : Type 0 where
@@ -60,7 +65,7 @@ sizes-of t = record { teams = t .teams; games = length (t .left) }
 abbrev pub Read-back : Type 0
 Read-back =
     (t : Table) → Within t → (row points : ℕ) →
-    (outcome (encoded t) row points ≡ unless (row-short (sizes-of t) row) 10 0 (unless (points-short (sizes-of t) points) 10 1 (given (sizes-of t))))
+    (outcome (encoded t) row points ≡ unless-short (sizes-of t) row points (given (sizes-of t)))
     × Same t (table-in (encoded t))
 
 -- every file that is taken is the file of a table within the limits: the one that is read

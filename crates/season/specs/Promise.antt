@@ -22,7 +22,9 @@ Breaks-needed = (n : ℕ) (s : Plan) → Proper n s → n ≤ breaks n s + 2
 
 -- two teams without a break, in a proper plan, do not begin alike
 unfoldable pub Begin-differently : Type 0
-Begin-differently = (n : ℕ) (s : Plan) (i j : ℕ) → Proper n s → i < n → j < n → i ≢ j → breaks-of n s i ≡ 0 → breaks-of n s j ≡ 0 → s .home 0 i ≡ s .home 0 j → ⊥
+Begin-differently =
+    (n : ℕ) (s : Plan) (i j : ℕ) → Proper n s → i < n → j < n → i ≢ j →
+    breaks-of n s i ≡ 0 → breaks-of n s j ≡ 0 → s .home 0 i ≡ s .home 0 j → ⊥
 
 -- a ground shows that a team can't be first
 unfoldable pub Ground-law : Type 0
@@ -31,16 +33,21 @@ Ground-law = (t : Table) (i : ℕ) (r : ℕ → Bool) → Sound t → i < t .tea
 -- a ground against a team is one against each team outside it that can come to no more
 unfoldable pub Lower-neither : Type 0
 Lower-neither =
-    (t : Table) (i j : ℕ) → Sound t → i < t .teams → j < t .teams → most (t .points j) (left-of (t .left) j) ≤ most (t .points i) (left-of (t .left) i) →
+    (t : Table) (i j : ℕ) → Sound t → i < t .teams → j < t .teams →
+    most (t .points j) (left-of (t .left) j) ≤ most (t .points i) (left-of (t .left) i) →
     (r : ℕ → Bool) → Ground t i r → r j ≡ false → Ground t j r
 
 -- a team is sure to be first just if no other can come to more than it has
 unfoldable pub Sure : Type 0
 Sure =
     (t : Table) (i : ℕ) → Sound t → i < t .teams →
-    (((xs : List ℕ) → Ending (t .left) xs → (j : ℕ) → j < t .teams → final t xs j ≤ final t xs i) → (j : ℕ) → j < t .teams → j ≢ i → most (t .points j) (left-of (t .left) j) ≤ t .points i)
-    × (((j : ℕ) → j < t .teams → j ≢ i → most (t .points j) (left-of (t .left) j) ≤ t .points i) → (xs : List ℕ) → Ending (t .left) xs → (j : ℕ) → j < t .teams → final t xs j ≤ final t xs i)
+    (((xs : List ℕ) → Ending (t .left) xs → (j : ℕ) → j < t .teams → final t xs j ≤ final t xs i) →
+    (j : ℕ) → j < t .teams → j ≢ i → most (t .points j) (left-of (t .left) j) ≤ t .points i)
+    × (((j : ℕ) → j < t .teams → j ≢ i → most (t .points j) (left-of (t .left) j) ≤ t .points i) →
+    (xs : List ℕ) → Ending (t .left) xs → (j : ℕ) → j < t .teams → final t xs j ≤ final t xs i)
 
 -- all points after an ending are those of the table and two for each match left
 unfoldable pub Points-add : Type 0
-Points-add = (t : Table) (xs : List ℕ) → Sound t → Ending (t .left) xs → span (λ j. final t xs j) (t .teams) ≡ span (t .points) (t .teams) + 2 * length (t .left)
+Points-add =
+    (t : Table) (xs : List ℕ) → Sound t → Ending (t .left) xs →
+    span (λ j. final t xs j) (t .teams) ≡ span (t .points) (t .teams) + 2 * length (t .left)

@@ -1,8 +1,9 @@
--- What is read of a table's file: its number of teams in one byte, two bytes of points for each team, the low one first, then host and guest of each game left.
-use mathlib.Core.Bool.{Bool, not, cond, _&&_, _||_}
+-- What is read of a table's file: its number of teams in one byte, two bytes of points for each team, the low one first,
+-- then host and guest of each game left.
+use mathlib.Core.Bool.{Bool, cond, _||_}
 use mathlib.Core.List.{List, map, _++_}
 use Prim.Native.Nat.{ℕ, zero, suc, min, _+_, _*_, _-_, _/_, _%_}
-use lib.Dec.{ltb, eqb}
+use lib.Dec.{eqb, leb, ltb}
 use lib.ListN.{length, getD, drop}
 use Rattle.std.specs.Iters.{counting}
 use Rattle.season.specs.declared.game.Game.{Game}
@@ -37,13 +38,17 @@ sizes-in file = record { teams = teams-in file; games = (length file - (1 + 2 * 
 abbrev pub unserved : ℕ → Bool
 unserved teams = ltb teams 2 || ltb 64 teams
 
--- room for too few games; a row of more than 1,024 is refused anyway
+-- lent memory has room for too few games; a row of more than 1,024 is refused anyway
 abbrev pub row-short : Sizes → ℕ → Bool
 row-short s row = ltb row (min (s .games) 1024)
 
--- room for the points of too few teams
+-- lent memory has room for the points of too few teams
 abbrev pub points-short : Sizes → ℕ → Bool
 points-short s points = ltb points (s .teams)
+
+-- refused where lent memory is too short, the row of games looked at first
+abbrev pub unless-short : Sizes → ℕ → ℕ → Told Sizes → Told Sizes
+unless-short s row points after = unless (row-short s row) 10 0 (unless (points-short s points) 10 1 after)
 
 -- the file ends before its points are whole
 abbrev pub cut : List ℕ → Sizes → Bool
@@ -55,11 +60,11 @@ above bytes team = ltb 1000 (number-at bytes team)
 
 -- games that are not two bytes each, or more than 1,024
 abbrev pub uneven : List ℕ → Sizes → Bool
-uneven file s = not (eqb ((length file - (1 + 2 * s .teams)) % 2) 0) || ltb 1024 (s .games)
+uneven file s = eqb ((length file - (1 + 2 * s .teams)) % 2) 1 || ltb 1024 (s .games)
 
 -- a game with a team that is not there
 abbrev pub absent : List ℕ → ℕ → ℕ → Bool
-absent bytes teams k = not (ltb (game-at bytes k .host) teams && ltb (game-at bytes k .guest) teams)
+absent bytes teams k = leb teams (game-at bytes k .host) || leb teams (game-at bytes k .guest)
 
 -- a game of a team with itself
 abbrev pub alone : List ℕ → ℕ → Bool
@@ -70,24 +75,27 @@ alone bytes k = eqb (game-at bytes k .host) (game-at bytes k .guest)
 abbrev pub checked : List ℕ → Sizes → ℕ → ℕ → Told Sizes
 checked file s row points =
     unless (unserved (s .teams)) 2 0
-    (unless (row-short s row) 10 0
-    (unless (points-short s points) 10 1
+    (unless-short s row points
     (unless (cut file s) 3 (length file)
     (unless-at (above (points-in file)) (s .teams) 4
     (unless (uneven file s) 5 (length file)
     (unless-at (absent (games-in file) (s .teams)) (s .games) 6
     (unless-at (alone (games-in file)) (s .games) 7
-    (given s))))))))
+    (given s)))))))
 
 -- the answer of the reader
 abbrev pub outcome : List ℕ → ℕ → ℕ → Told Sizes
 outcome file row points = checked file (sizes-in file) row points
 
+-- lent memory with f k written at each place k below n, and after those what stood there
+abbrev pub written : {X : Type 0} → (ℕ → X) → ℕ → List X → List X
+written f n old = map f (counting 0 n) ++ drop n old
+
 -- what lent memory holds afterwards: what was read, then what stood there; refused, what stood there
 abbrev pub points-after : Told Sizes → List ℕ → List ℕ → List ℕ
-points-after (given s) file old = map (number-at (points-in file)) (counting 0 (s .teams)) ++ drop (s .teams) old
+points-after (given s) file old = written (number-at (points-in file)) (s .teams) old
 points-after (refused number place) file old = old
 
 abbrev pub games-after : Told Sizes → List ℕ → List Game → List Game
-games-after (given s) file old = map (game-at (games-in file)) (counting 0 (s .games)) ++ drop (s .games) old
+games-after (given s) file old = written (game-at (games-in file)) (s .games) old
 games-after (refused number place) file old = old

@@ -1,4 +1,5 @@
 -- Refusals by number and place, and what an answer tells that may be a refusal.
+use mathlib.Core.Path.{_≡_}
 use Prim.Native.Nat.{ℕ}
 use mathlib.Core.Bool.{Bool, cond}
 use Rattle.std.specs.declared.result.Result.{Result}
@@ -6,7 +7,8 @@ use Rattle.std.specs.declared.result.Result.the-variants.{Ok, Err}
 use Rattle.season.specs.declared.refusal.Lent.{Lent}
 use Rattle.season.specs.declared.refusal.Lent.the-variants.{Row, Points, Flow}
 use Rattle.season.specs.declared.refusal.Refusal.{Refusal}
-use Rattle.season.specs.declared.refusal.Refusal.the-variants.{PlanTeams, TableTeams, FileEnds, PointsAbove, GamesLength, NoSuchTeam, AgainstItself, AuditPlan, AuditEnding, MemoryShort}
+use Rattle.season.specs.declared.refusal.Refusal.the-variants.{PlanTeams, TableTeams, FileEnds, PointsAbove, GamesLength}
+use Rattle.season.specs.declared.refusal.Refusal.the-variants.{NoSuchTeam, AgainstItself, AuditPlan, AuditEnding, MemoryShort}
 
 -- which memory was too short
 abbrev pub lent-place : Lent → ℕ
@@ -37,6 +39,10 @@ place-of (AgainstItself at) = at
 place-of (AuditPlan at) = at
 place-of (AuditEnding at) = at
 place-of (MemoryShort lent) = lent-place lent
+
+-- number and place tell refusals apart, so that a contract by them pins the refusal
+abbrev pub Told-apart : Type 0
+Told-apart = (e f : Refusal) → number-of e ≡ number-of f → place-of e ≡ place-of f → e ≡ f
 
 -- an answer: what was asked for, or the number and the place of a refusal
 pub data Told (A : Type 0) : Type 0 where

@@ -19,7 +19,10 @@ pub record Table : Type 0 where
 
 -- every match left is one of two different teams of the table
 pub record Sound (t : Table) : Type 0 where
-  pub inside : (k : ℕ) (d : Match) → k < length (t .left) → (getD (t .left) k d .host < t .teams) × (getD (t .left) k d .guest < t .teams) × (getD (t .left) k d .host ≢ getD (t .left) k d .guest)
+  pub inside :
+      (k : ℕ) (d : Match) → k < length (t .left) →
+      (getD (t .left) k d .host < t .teams) × (getD (t .left) k d .guest < t .teams)
+      × (getD (t .left) k d .host ≢ getD (t .left) k d .guest)
 
 -- an ending gives the host's points in each match left, 0 to 2, in order; the guest has the rest of the two
 unfoldable pub Ending : List Match → List ℕ → Type 0
@@ -61,4 +64,6 @@ among r (m ∷ ms) = pick (r (m .host) && r (m .guest)) 2 0 + among r ms
 -- a ground against team i: a set of other teams whose points, had and to come among themselves, must carry one of them past the most of i
 pub record Ground (t : Table) (i : ℕ) (r : ℕ → Bool) : Type 0 where
   pub not-itself : r i ≡ false
-  pub too-many : span (λ j. pick (r j) (most (t .points i) (left-of (t .left) i)) 0) (t .teams) < span (λ j. pick (r j) (t .points j) 0) (t .teams) + among r (t .left)
+  pub too-many :
+      span (λ j. pick (r j) (most (t .points i) (left-of (t .left) i)) 0) (t .teams)
+      < span (λ j. pick (r j) (t .points j) 0) (t .teams) + among r (t .left)

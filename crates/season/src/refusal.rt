@@ -48,7 +48,8 @@ pub enum Refusal {
     AgainstItself(usize),
     // 8: a plan to audit for a number of teams as under 1, at 0, or of another length than its teams ask for, at that length
     AuditPlan(usize),
-    // 9: an ending to audit of another length than the row of games, at that length, with a byte above 2, at the game, or for a team that is not there, at 0
+    // 9: an ending to audit of another length than the row of games, at that length, with a byte above 2, at the game,
+    // or for a team that is not there, at 0
     AuditEnding(usize),
     // 10: lent memory that is too short
     MemoryShort(Lent),

@@ -1,15 +1,13 @@
 // The reader of table files. A file has the number of teams in one byte, two bytes of points for each team, the low one first,
 // then host and guest of each game left. It is read into lent memory, or turned away by the first check that applies.
 ghost use mathlib.Core.Path.{_≡_};
-ghost use mathlib.Core.Bool.{cond};
-ghost use mathlib.Core.List.{_++_, map};
 ghost use Prim.Native.Nat.{_+_, _*_, _/_, _<_, _≤_};
-ghost use lib.ListN.{length, drop};
+ghost use lib.ListN.{length};
 ghost use Rattle.season.specs.Bytes.{number-at, game-at};
 ghost use Rattle.season.specs.Encoding.{Exact};
-ghost use Rattle.season.specs.Reading.{outcome, points-after, games-after, unless-at, unserved, row-short, points-short, cut, above, uneven, absent, alone, sizes-in, teams-in};
+ghost use Rattle.season.specs.Reading.{outcome, points-after, games-after, teams-in, sizes-in, unless-at, unless-short, written};
+ghost use Rattle.season.specs.Reading.{unserved, cut, above, uneven, absent, alone};
 ghost use Rattle.season.specs.Refused.{told, given, unless};
-ghost use Rattle.std.specs.Iters.{counting};
 use crate::game::Game;
 use crate::game::whole_game;
 use crate::plan::MOST_TEAMS;
@@ -52,7 +50,7 @@ fn check_teams(file: &[u8]) -> Result<Sizes, Refusal>
 
 // Refuses lent memory that is too short: the row of games first, then the points.
 fn check_memory(sizes: Sizes, row: usize, points: usize) -> Result<Sizes, Refusal>
-    ensures { λ r. ⌜ told r ≡ unless (row-short sizes row) 10 0 (unless (points-short sizes points) 10 1 (given sizes)) ⌝ }
+    ensures { λ r. ⌜ told r ≡ unless-short sizes row points (given sizes) ⌝ }
 {
     if row < sizes.games.min(MOST_GAMES) {
         return Err(Refusal::MemoryShort(Lent::Row));
@@ -161,7 +159,7 @@ fn check_file(file: &[u8], row: usize, points: usize) -> Result<Sizes, Refusal>
 fn write_points(bytes: &[u8], points: &mut [u16], teams: usize)
     requires whole { ⌜ teams ≤ length (now bytes) / 2 ⌝ }
     requires room { ⌜ teams ≤ length (now points) ⌝ }
-    ensures { λ _. ⌜ now (points .exit) ≡ map (number-at (now (bytes .entry))) (counting 0 teams) ++ drop teams (now (points .entry)) ⌝ }
+    ensures { λ _. ⌜ now (points .exit) ≡ written (number-at (now (bytes .entry))) teams (now (points .entry)) ⌝ }
 {
     for team in 0..teams {
         points[team] = points_at(bytes, team);
@@ -171,7 +169,7 @@ fn write_points(bytes: &[u8], points: &mut [u16], teams: usize)
 fn write_games(bytes: &[u8], row: &mut [Game], games: usize)
     requires whole { ⌜ games ≤ length (now bytes) / 2 ⌝ }
     requires room { ⌜ games ≤ length (now row) ⌝ }
-    ensures { λ _. ⌜ now (row .exit) ≡ map (game-at (now (bytes .entry))) (counting 0 games) ++ drop games (now (row .entry)) ⌝ }
+    ensures { λ _. ⌜ now (row .exit) ≡ written (game-at (now (bytes .entry))) games (now (row .entry)) ⌝ }
 {
     for k in 0..games {
         row[k] = whole_game(bytes, k);

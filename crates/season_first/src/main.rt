@@ -37,7 +37,9 @@ fn read_words(rt: &LibcRuntime) -> io::Result<Asked> {
         return Ok(Asked::Input);
     };
     if let Some(more) = words.next() {
-        return Ok(Asked::Unclear(format!(rt.alloc(), "one file is expected, and `{more}` is too much")?));
+        return Ok(Asked::Unclear(
+            format!(rt.alloc(), "one file is expected, and `{more}` is too much")?,
+        ));
     }
     if word.as_str() == "--help" || word.as_str() == "-h" {
         return Ok(Asked::Help);

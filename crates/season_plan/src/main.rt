@@ -1,8 +1,5 @@
 // Says of a number of teams whether a plan can be made for it.
-ghost use mathlib.Core.Path.{_≡_};
-ghost use Prim.Native.Nat.{_^_, _<_};
-ghost use Rattle.std.specs.Reads.{Numeral, value, afterPlus};
-ghost use Rattle.std.specs.declared.option.Option.the-variants.{Some};
+ghost use Rattle.season_plan.specs.Words.{Numbered};
 use season::plan::plan_teams;
 use season::refusal::RefusalDisplay;
 use std::env;
@@ -27,7 +24,7 @@ enum Asked {
 
 // The number that a text writes. One that is too large for the machine counts as the largest, which is refused all the same.
 fn number_in(text: &str) -> Option<usize>
-    ensures { λ r. ⌜ (Numeral 10 (afterPlus (now (text .entry))) → value 10 (afterPlus (now (text .entry))) < 2 ^ 64 → r ≡ Some (value 10 (afterPlus (now (text .entry))))) ⌝ }
+    ensures { λ r. ⌜ Numbered (now (text .entry)) r ⌝ }
 {
     match text.parse::<usize>() {
         Ok(n) => Some(n),
@@ -45,7 +42,12 @@ fn read_words(rt: &LibcRuntime) -> io::Result<Asked> {
         return Ok(Asked::Unclear(String::from_str(heap, "no number of teams is given")?));
     };
     if let Some(more) = words.next() {
-        return Ok(Asked::Unclear(format!(heap, "one number of teams is expected, and `{more}` is too much")?));
+        return Ok(Asked::Unclear(
+            format!(
+                heap,
+                "one number of teams is expected, and `{more}` is too much"
+            )?,
+        ));
     }
     if word.as_str() == "--help" || word.as_str() == "-h" {
         return Ok(Asked::Help);

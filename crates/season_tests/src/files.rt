@@ -17,13 +17,20 @@ use std::test::*;
 // 6 6 4 points, with the games 0-1 and 2-0 left.
 const THREE: [u8; 11] = [3, 6, 0, 6, 0, 4, 0, 0, 1, 2, 0];
 
-const OLD: Game = Game { host: 77, guest: 88 };
+const OLD: Game = Game {
+    host: 77,
+    guest: 88,
+};
 
 // What is answered with room for so many teams and games, of at most 64 and 1,024.
 fn answer(file: &[u8], teams: usize, games: usize) -> Result<Sizes, Refusal> {
     let mut points = [99u16; 64];
     let mut row = [OLD; 1024];
-    read_table(file, &mut points[0..teams.min(64)], &mut row[0..games.min(1024)])
+    read_table(
+        file,
+        &mut points[0..teams.min(64)],
+        &mut row[0..games.min(1024)],
+    )
 }
 
 fn check_refused(file: &[u8], refusal: Refusal) -> Result<(), Fail> {
@@ -34,9 +41,15 @@ fn check_refused(file: &[u8], refusal: Refusal) -> Result<(), Fail> {
 fn a_table_of_three_is_read() -> Result<(), Fail> {
     let mut points = [99u16; 4];
     let mut row = [OLD; 3];
-    check_eq(read_table(&THREE, &mut points, &mut row), Ok(Sizes { teams: 3, games: 2 }))?;
+    check_eq(
+        read_table(&THREE, &mut points, &mut row),
+        Ok(Sizes { teams: 3, games: 2 }),
+    )?;
     check_eq(points, [6, 6, 4, 99])?;
-    check_eq(row, [Game { host: 0, guest: 1 }, Game { host: 2, guest: 0 }, OLD])
+    check_eq(
+        row,
+        [Game { host: 0, guest: 1 }, Game { host: 2, guest: 0 }, OLD],
+    )
 }
 
 #[test]
@@ -44,7 +57,10 @@ fn what_is_refused_changes_nothing() -> Result<(), Fail> {
     let mut points = [99u16; 4];
     let mut row = [OLD; 3];
     let file = [3, 6, 0, 6, 0, 4, 0, 0, 1, 2, 2];
-    check_eq(read_table(&file, &mut points, &mut row), Err(Refusal::AgainstItself(1)))?;
+    check_eq(
+        read_table(&file, &mut points, &mut row),
+        Err(Refusal::AgainstItself(1)),
+    )?;
     check_eq(points, [99; 4])?;
     check_eq(row, [OLD; 3])
 }
@@ -56,14 +72,20 @@ fn teams_are_2_to_64() -> Result<(), Fail> {
     check_refused(&[1, 0, 0], Refusal::TableTeams)?;
     check_refused(&[65], Refusal::TableTeams)?;
     check_refused(&[255], Refusal::TableTeams)?;
-    check_eq(answer(&[2, 0, 0, 0, 0], 64, 1024), Ok(Sizes { teams: 2, games: 0 }))
+    check_eq(
+        answer(&[2, 0, 0, 0, 0], 64, 1024),
+        Ok(Sizes { teams: 2, games: 0 }),
+    )
 }
 
 #[test]
 fn points_are_whole() -> Result<(), Fail> {
     check_refused(&THREE[0..1], Refusal::FileEnds(1))?;
     check_refused(&THREE[0..6], Refusal::FileEnds(6))?;
-    check_eq(answer(&THREE[0..7], 64, 1024), Ok(Sizes { teams: 3, games: 0 }))
+    check_eq(
+        answer(&THREE[0..7], 64, 1024),
+        Ok(Sizes { teams: 3, games: 0 }),
+    )
 }
 
 // 1,000 is 232 and 3 × 256.
@@ -72,7 +94,10 @@ fn points_are_at_most_1000() -> Result<(), Fail> {
     check_refused(&[3, 233, 3, 6, 0, 4, 0], Refusal::PointsAbove(0))?;
     check_refused(&[3, 232, 3, 6, 0, 233, 3], Refusal::PointsAbove(2))?;
     check_refused(&[3, 0, 0, 0, 4, 255, 255], Refusal::PointsAbove(1))?;
-    check_eq(answer(&[2, 232, 3, 232, 3], 64, 1024), Ok(Sizes { teams: 2, games: 0 }))
+    check_eq(
+        answer(&[2, 232, 3, 232, 3], 64, 1024),
+        Ok(Sizes { teams: 2, games: 0 }),
+    )
 }
 
 #[test]
@@ -90,15 +115,24 @@ fn both_teams_of_a_game_are_there() -> Result<(), Fail> {
 
 #[test]
 fn a_game_has_two_teams() -> Result<(), Fail> {
-    check_refused(&[3, 6, 0, 6, 0, 4, 0, 1, 1, 2, 0], Refusal::AgainstItself(0))?;
-    check_refused(&[3, 6, 0, 6, 0, 4, 0, 0, 1, 2, 2], Refusal::AgainstItself(1))
+    check_refused(
+        &[3, 6, 0, 6, 0, 4, 0, 1, 1, 2, 0],
+        Refusal::AgainstItself(0),
+    )?;
+    check_refused(
+        &[3, 6, 0, 6, 0, 4, 0, 0, 1, 2, 2],
+        Refusal::AgainstItself(1),
+    )
 }
 
 #[test]
 fn memory_is_one_entry_short() -> Result<(), Fail> {
     check_eq(answer(&THREE, 3, 2), Ok(Sizes { teams: 3, games: 2 }))?;
     check_eq(answer(&THREE, 3, 1), Err(Refusal::MemoryShort(Lent::Row)))?;
-    check_eq(answer(&THREE, 2, 2), Err(Refusal::MemoryShort(Lent::Points)))
+    check_eq(
+        answer(&THREE, 2, 2),
+        Err(Refusal::MemoryShort(Lent::Points)),
+    )
 }
 
 // The order of the checks: number of teams, memory, points, games, teams there, two teams.
@@ -130,18 +164,32 @@ fn memory_is_looked_at_next() -> Result<(), Fail> {
 
 #[test]
 fn points_are_looked_at_before_games() -> Result<(), Fail> {
-    check_refused(&[2, 233, 3], Refusal::FileEnds(3)).note("a file that ends early, points above 1,000")?;
+    check_refused(&[2, 233, 3], Refusal::FileEnds(3)).note(
+        "a file that ends early, points above 1,000",
+    )?;
     check_refused(&[2, 0, 0, 233, 3, 0], Refusal::PointsAbove(1)).note("and half a game")?;
-    check_refused(&[2, 0, 0, 233, 3, 0, 2], Refusal::PointsAbove(1)).note("and a team that is not there")?;
-    check_refused(&[2, 0, 0, 233, 3, 0, 0], Refusal::PointsAbove(1)).note("and a team against itself")
+    check_refused(&[2, 0, 0, 233, 3, 0, 2], Refusal::PointsAbove(1)).note(
+        "and a team that is not there",
+    )?;
+    check_refused(&[2, 0, 0, 233, 3, 0, 0], Refusal::PointsAbove(1)).note(
+        "and a team against itself",
+    )
 }
 
 #[test]
 fn games_are_looked_at_number_by_number() -> Result<(), Fail> {
-    check_refused(&[2, 0, 0, 0, 0, 0, 2, 0], Refusal::GamesLength(8)).note("half a game, a team that is not there")?;
-    check_refused(&[2, 0, 0, 0, 0, 0, 0, 0], Refusal::GamesLength(8)).note("half a game, a team against itself")?;
-    check_refused(&[2, 0, 0, 0, 0, 0, 0, 0, 2], Refusal::NoSuchTeam(1)).note("a team against itself in game 0")?;
-    check_refused(&[2, 0, 0, 0, 0, 2, 2], Refusal::NoSuchTeam(0)).note("the same team, and not there")
+    check_refused(&[2, 0, 0, 0, 0, 0, 2, 0], Refusal::GamesLength(8)).note(
+        "half a game, a team that is not there",
+    )?;
+    check_refused(&[2, 0, 0, 0, 0, 0, 0, 0], Refusal::GamesLength(8)).note(
+        "half a game, a team against itself",
+    )?;
+    check_refused(&[2, 0, 0, 0, 0, 0, 0, 0, 2], Refusal::NoSuchTeam(1)).note(
+        "a team against itself in game 0",
+    )?;
+    check_refused(&[2, 0, 0, 0, 0, 2, 2], Refusal::NoSuchTeam(0)).note(
+        "the same team, and not there",
+    )
 }
 
 // Game `k` of a row of games of each of 64 teams with the next.
@@ -171,18 +219,33 @@ fn the_largest_table_is_read(rt: LibcRuntime) -> Result<(), Fail> {
     let file = full_file(&rt, 1024)?;
     let mut points = [99u16; 64];
     let mut row = [OLD; 1024];
-    check_eq(read_table(&file, &mut points, &mut row), Ok(Sizes { teams: 64, games: 1024 }))?;
+    check_eq(
+        read_table(&file, &mut points, &mut row),
+        Ok(Sizes {
+            teams: 64,
+            games: 1024,
+        }),
+    )?;
     check_eq(points, [1000; 64])?;
     for (k, game) in row.iter().enumerate() {
         check_eq(*game, game_with_next(k))?;
     }
-    check_eq(answer(&file, 64, 1023), Err(Refusal::MemoryShort(Lent::Row)))?;
-    check_eq(answer(&file, 63, 1024), Err(Refusal::MemoryShort(Lent::Points)))
+    check_eq(
+        answer(&file, 64, 1023),
+        Err(Refusal::MemoryShort(Lent::Row)),
+    )?;
+    check_eq(
+        answer(&file, 63, 1024),
+        Err(Refusal::MemoryShort(Lent::Points)),
+    )
 }
 
 #[test]
 fn a_row_of_1025_games_is_too_long(rt: LibcRuntime) -> Result<(), Fail> {
     let file = full_file(&rt, 1025)?;
     check_refused(&file, Refusal::GamesLength(2179))?;
-    check_eq(answer(&file, 64, 1023), Err(Refusal::MemoryShort(Lent::Row))).note("memory is looked at first")
+    check_eq(
+        answer(&file, 64, 1023),
+        Err(Refusal::MemoryShort(Lent::Row)),
+    ).note("memory is looked at first")
 }

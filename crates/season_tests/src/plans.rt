@@ -17,7 +17,14 @@ const FOUR: [u8; 12] = [3, 0, 1, 2, 1, 3, 2, 0, 3, 2, 0, 1];
 fn plans_are_for_even_numbers_from_2_to_64() -> Result<(), Fail> {
     for n in 0..70usize {
         let served = n >= 2 && n <= 64 && n % 2 == 0;
-        check_eq(plan_teams(n), if served { Ok(n) } else { Err(Refusal::PlanTeams) })?;
+        check_eq(
+            plan_teams(n),
+            if served {
+                Ok(n)
+            } else {
+                Err(Refusal::PlanTeams)
+            },
+        )?;
     }
     check_eq(plan_teams(usize::MAX - 1), Err(Refusal::PlanTeams))
 }

@@ -6,11 +6,10 @@ use lib.ListN.{drop}
 use Rattle.std.proofs.shelf.Lists.{take-rest}
 use Rattle.season.proofs.Exact.{exact-taken, exact-refused}
 use Rattle.season.proofs.Taken.{taken}
-use Rattle.season.proofs.Written.{written}
 use Rattle.season.proofs.table.read_table.Needs as need
 use Rattle.season.specs.declared.table.Sizes.{Sizes}
 use Rattle.season.specs.Bytes.{number-at, game-at}
-use Rattle.season.specs.Reading.{points-after, games-after, sizes-in}
+use Rattle.season.specs.Reading.{points-after, games-after, sizes-in, written}
 use Rattle.season.specs.Refused.{given}
 
 pub returns-in-rest : need.returns-in-rest

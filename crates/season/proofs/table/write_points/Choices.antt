@@ -1,6 +1,6 @@
 use mathlib.Core.Path.{_≡_}
-use Rattle.season.proofs.Written.{written}
 use Rattle.season.proofs.table.write_points.Given as given
+use Rattle.season.specs.Reading.{written}
 use Rattle.season.specs.Bytes.{number-at}
 
 abbrev pub Inv-loop-team : given.InvT-loop-team

@@ -1,0 +1,2 @@
+-- What the words of a call mean.
+pub mod Words
