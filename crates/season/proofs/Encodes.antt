@@ -9,17 +9,17 @@ use Rattle.std.proofs.shelf.Counted.{length-map-counting, getD-map-counting}
 use Rattle.std.proofs.shelf.Lists.{length-drop, getD-drop, drop-drop, drop-more, take-all, take-append-drop}
 use Rattle.season.specs.Bytes.{number-at, game-at}
 use Rattle.season.specs.Encoding.{Within, Taken-encodes, points-bytes, match-bytes, encoded, match-of, table-in}
-use Rattle.season.specs.Reading.{teams-in, points-in, games-in, sizes-in}
+use Rattle.season.specs.Reading.{teams-in, points-in, sizes-in}
 use Rattle.season.specs.Table.{Match}
 use Rattle.season.proofs.Pairs.{pairs-read}
-use Rattle.season.proofs.Taken.{Taken, taken}
+use Rattle.season.proofs.Taken.{Taken, taken, games-of}
 
 module _ {file : List ℕ} {row points : ℕ} (h : Taken file row points) where
-  left-at : (k : ℕ) (d : Match) → k < sizes-in file .games → getD (table-in file .left) k d ≡ match-of (game-at (games-in file) k)
-  left-at k d l = getD-map-counting (λ i. match-of (game-at (games-in file) i)) 0 (sizes-in file .games) k k d l (omega arith)
+  left-at : (k : ℕ) (d : Match) → k < sizes-in file .games → getD (table-in file .left) k d ≡ match-of (game-at (games-of file) k)
+  left-at k d l = getD-map-counting (λ i. match-of (game-at (games-of file) i)) 0 (sizes-in file .games) k k d l (omega arith)
 
   length-left : length (table-in file .left) ≡ sizes-in file .games
-  length-left = length-map-counting (λ i. match-of (game-at (games-in file) i)) 0 (sizes-in file .games)
+  length-left = length-map-counting (λ i. match-of (game-at (games-of file) i)) 0 (sizes-in file .games)
 
   pub within : Within (table-in file)
   within = record {
@@ -44,14 +44,14 @@ module _ {file : List ℕ} {row points : ℕ} (h : Taken file row points) where
         pairs-read (λ p. p % 256) (λ p. p / 256) (number-at (points-in file)) (points-in file) (teams-in file)
         (λ k. omega (arith, byte (2 * k))) (λ k. omega (arith, byte (2 * k))) long
 
-    games-written : match-bytes (table-in file .left) ≡ games-in file
+    games-written : match-bytes (table-in file .left) ≡ games-of file
     games-written =
-        let long : length (games-in file) ≡ 2 * sizes-in file .games =
+        let long : length (games-of file) ≡ 2 * sizes-in file .games =
         rw (length-drop (1 + 2 * teams-in file) file) (omega (arith, h .whole)) in
         let read = pairs-read (λ m. m .host) (λ m. m .guest)
-        (λ k. match-of (game-at (games-in file) k)) (games-in file) (sizes-in file .games)
+        (λ k. match-of (game-at (games-of file) k)) (games-of file) (sizes-in file .games)
         (λ k. refl) (λ k. refl) (omega (arith, long)) in
-        let all = take-all (2 * sizes-in file .games) (games-in file) (omega (arith, long)) in
+        let all = take-all (2 * sizes-in file .games) (games-of file) (omega (arith, long)) in
         read ∙ all
 
     pub written-back : encoded (table-in file) ≡ file

@@ -25,18 +25,15 @@ only-memory true b s number place e = cc
 only-memory false true s number place e = cc
 only-memory false false s number place e = let z : _≡_ {A = ℕ} 0 1 = cc in absurd (omega arith)
 
-pub exact-refused : (file : List ℕ) (row points : ℕ) (r : Result Sizes Refusal) (old : List ℕ) (older : List Game) →
-    told r ≡ outcome file row points → ((s : Sizes) → r ≡ Ok s → ⊥) → Exact file r old older
-exact-refused file row points (Ok s) old older e not-ok = absurd (not-ok s refl)
-exact-refused file row points (Err f) old older e not-ok = λ t w same.
-    let here = e ∙ sym (ap (λ bytes. outcome bytes row points) same) ∙ read-back t w row points .0 in
-    only-memory (row-short (sizes-of t) row) (points-short (sizes-of t) points) _ _ _ here
-
-pub exact-taken : (file : List ℕ) (row points : ℕ) (s : Sizes) (old now : List ℕ) (older newer : List Game) →
-    ((i : ℕ) → getD file i 0 < 256) → given s ≡ outcome file row points →
-    now ≡ points-after (given s) file old → newer ≡ games-after (given s) file older → Exact file (Ok s) now newer
-exact-taken file row points s old now older newer bytes e is-points is-games =
+pub exact :
+    (file : List ℕ) (row points : ℕ) (r : Result Sizes Refusal) (old now : List ℕ) (older newer : List Game) →
+    ((i : ℕ) → getD file i 0 < 256) → told r ≡ outcome file row points →
+    now ≡ points-after (told r) file old → newer ≡ games-after (told r) file older → Exact file r now newer
+exact file row points (Ok s) old now older newer bytes e is-points is-games =
     let sizes = taken file row points s (sym e) .0 in
     let both = taken-encodes file row points s bytes (sym e) in
     let same = same-read file old older in
     rw (is-points, is-games, sizes) (within-same same (both .0), sym (encoded-same same) ∙ both .1)
+exact file row points (Err f) old now older newer bytes e is-points is-games = λ t w same.
+    let here = e ∙ sym (ap (λ b. outcome b row points) same) ∙ read-back t w row points .0 in
+    only-memory (row-short (sizes-of t) row) (points-short (sizes-of t) points) _ _ _ here

@@ -10,6 +10,7 @@ use Rattle.std.specs.Iters.{counting}
 use Rattle.std.proofs.shelf.Counted.{length-map-counting, getD-map-counting, fill-by-all}
 use Rattle.std.proofs.shelf.Lists.{length-append, append-nil, drop-at}
 use Rattle.std.proofs.shelf.Tests.{le-ltb, lt-leb, ne-eqb, or-from, cond-false}
+use Rattle.season.specs.declared.game.Game.{Game}
 use Rattle.season.specs.declared.table.Sizes.{Sizes}
 use Rattle.season.specs.Bytes.{number-at, game-at}
 use Rattle.season.specs.Encoding.{Within, Same, Read-back, points-bytes, match-bytes, encoded, match-of, table-in, sizes-of}
@@ -47,7 +48,7 @@ module _ (t : Table) (w : Within t) where
       let e : (length (encoded t) - (1 + 2 * t .teams)) / 2 ≡ length (t .left) = omega (arith, length-file) in
       λ i. record { teams = t .teams; games = e i }
 
-  games : games-in (encoded t) ≡ match-bytes (t .left)
+  games : games-in (encoded t) (sizes-of t) ≡ match-bytes (t .left)
   games =
       let s : 1 + 2 * t .teams ≡ suc (2 * t .teams) = omega arith in
       rw s (drop-at _ (match-bytes (t .left)) (2 * t .teams) length-points)
@@ -60,10 +61,13 @@ module _ (t : Table) (w : Within t) where
       let here = getD-map-counting (t .points) 0 (t .teams) i i 0 l (omega arith) in
       omega (arith, low, high, here)
 
-  host-at : (k : ℕ) (d : Match) → k < length (t .left) → game-at (games-in (encoded t)) k .host ≡ getD (t .left) k d .host
+  abbrev game : ℕ → Game
+  game k = game-at (games-in (encoded t) (sizes-of t)) k
+
+  host-at : (k : ℕ) (d : Match) → k < length (t .left) → game k .host ≡ getD (t .left) k d .host
   host-at k d l = rw games (rw append-nil at (pairs-even (λ m. m .host) (λ m. m .guest) (t .left) [] k d l))
 
-  guest-at : (k : ℕ) (d : Match) → k < length (t .left) → game-at (games-in (encoded t)) k .guest ≡ getD (t .left) k d .guest
+  guest-at : (k : ℕ) (d : Match) → k < length (t .left) → game k .guest ≡ getD (t .left) k d .guest
   guest-at k d l = rw games (rw append-nil at (pairs-odd (λ m. m .host) (λ m. m .guest) (t .left) [] k d l))
 
   not-unserved : unserved (t .teams) ≡ false
@@ -81,14 +85,14 @@ module _ (t : Table) (w : Within t) where
       or-from _ _ (ne-eqb _ 1 (omega (arith, even))) (le-ltb 1024 (length (t .left)) (w .left-few))
 
   module _ (k : ℕ) (l : k < length (t .left)) where
-    not-absent : absent (games-in (encoded t)) (t .teams) k ≡ false
+    not-absent : absent (games-in (encoded t) (sizes-of t)) (t .teams) k ≡ false
     not-absent =
         let inside = w .sound .inside k none l in
-        let host : game-at (games-in (encoded t)) k .host < t .teams = rw (host-at k none l) (inside .0) in
-        let guest : game-at (games-in (encoded t)) k .guest < t .teams = rw (guest-at k none l) (inside .1) in
+        let host : game k .host < t .teams = rw (host-at k none l) (inside .0) in
+        let guest : game k .guest < t .teams = rw (guest-at k none l) (inside .1) in
         or-from _ _ (lt-leb _ _ host) (lt-leb _ _ guest)
 
-    not-alone : alone (games-in (encoded t)) k ≡ false
+    not-alone : alone (games-in (encoded t) (sizes-of t)) k ≡ false
     not-alone = ne-eqb _ _ (rw (host-at k none l, guest-at k none l) (w .sound .inside k none l .2))
 
   passes : (row points : ℕ) → outcome (encoded t) row points ≡ unless-short (sizes-of t) row points (given (sizes-of t))
@@ -97,8 +101,8 @@ module _ (t : Table) (w : Within t) where
       let rest = pass (cut (encoded t) s) 3 _ _ not-cut
       ∙ pass-at (above (points-in (encoded t))) (t .teams) 4 _ not-above
       ∙ pass (uneven (encoded t) s) 5 _ _ not-uneven
-      ∙ pass-at (absent (games-in (encoded t)) (t .teams)) (length (t .left)) 6 _ not-absent
-      ∙ pass-at (alone (games-in (encoded t))) (length (t .left)) 7 (given s) not-alone in
+      ∙ pass-at (absent (games-in (encoded t) (sizes-of t)) (t .teams)) (length (t .left)) 6 _ not-absent
+      ∙ pass-at (alone (games-in (encoded t) (sizes-of t))) (length (t .left)) 7 (given s) not-alone in
       ap (λ z. checked (encoded t) z row points) sizes
       ∙ pass (unserved (t .teams)) 2 0 _ not-unserved
       ∙ ap (unless-short s row points) rest
@@ -106,7 +110,7 @@ module _ (t : Table) (w : Within t) where
   same : Same t (table-in (encoded t))
   same =
       let count : length (t .left) ≡ sizes-in (encoded t) .games = sym (ap (λ (s : Sizes). s .games) sizes) in
-      let f : ℕ → Match = λ k. match-of (game-at (games-in (encoded t)) k) in
+      let f : ℕ → Match = λ k. match-of (game k) in
       let read : (k : ℕ) → k < length (t .left) → getD (t .left) k none ≡ f k =
       λ k l i. record { host = sym (host-at k none l) i; guest = sym (guest-at k none l) i } in
       record {

@@ -10,9 +10,10 @@ use Rattle.std.proofs.shelf.Lists.{getD-append-left, take-at}
 use Rattle.season.specs.declared.game.Game.{Game}
 use Rattle.season.specs.Bytes.{number-at, game-at}
 use Rattle.season.specs.Encoding.{Within, Same, encoded, match-of, table-of, table-in}
-use Rattle.season.specs.Reading.{teams-in, points-in, games-in, sizes-in, points-after, games-after}
+use Rattle.season.specs.Reading.{teams-in, points-in, sizes-in, points-after, games-after}
 use Rattle.season.specs.Refused.{given}
 use Rattle.season.specs.Table.{Table}
+use Rattle.season.proofs.Taken.{games-of}
 
 -- functions that agree below n make the same list
 pub map-agree :
@@ -45,7 +46,7 @@ table-read file old older =
 pub same-read : (file old : List ℕ) (older : List Game) → Same (table-in file) (table-read file old older)
 same-read file old older =
     let f = number-at (points-in file) in
-    let g = game-at (games-in file) in
+    let g = game-at (games-of file) in
     let games = sizes-in file .games in
     let front = take-at (map g (counting 0 games)) (drop games older) games (length-map-counting g 0 games) in
     record {

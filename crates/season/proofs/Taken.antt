@@ -15,6 +15,10 @@ use Rattle.season.specs.Reading.{unserved, row-short, points-short, cut, above
 use Rattle.season.specs.Refused.{Told, given, unless}
 use Rattle.season.proofs.First.{none-before}
 
+-- the bytes of the games of a file
+abbrev pub games-of : List ℕ → List ℕ
+games-of file = games-in file (sizes-in file)
+
 pub record Taken (file : List ℕ) (row points : ℕ) : Type 0 where
   pub two : 2 ≤ teams-in file
   pub sixty-four : teams-in file ≤ 64
@@ -23,9 +27,9 @@ pub record Taken (file : List ℕ) (row points : ℕ) : Type 0 where
   pub low : (i : ℕ) → i < teams-in file → number-at (points-in file) i ≤ 1000
   pub whole : length file ≡ 1 + 2 * teams-in file + 2 * sizes-in file .games
   pub few : sizes-in file .games ≤ 1024
-  pub host-there : (k : ℕ) → k < sizes-in file .games → game-at (games-in file) k .host < teams-in file
-  pub guest-there : (k : ℕ) → k < sizes-in file .games → game-at (games-in file) k .guest < teams-in file
-  pub apart : (k : ℕ) → k < sizes-in file .games → game-at (games-in file) k .host ≢ game-at (games-in file) k .guest
+  pub host-there : (k : ℕ) → k < sizes-in file .games → game-at (games-of file) k .host < teams-in file
+  pub guest-there : (k : ℕ) → k < sizes-in file .games → game-at (games-of file) k .guest < teams-in file
+  pub apart : (k : ℕ) → k < sizes-in file .games → game-at (games-of file) k .host ≢ game-at (games-of file) k .guest
 
 module _ {A : Type 0} where
   -- a check that was passed
@@ -53,14 +57,14 @@ taken file row points s e =
     let not-cut = passed (cut file z) _ _ _ s (points-past .1) in
     let not-above = passed-at (above (points-in file)) (teams-in file) _ _ s (not-cut .1) in
     let not-uneven = passed (uneven file z) _ _ _ s (not-above .1) in
-    let not-absent = passed-at (absent (games-in file) (teams-in file)) (z .games) _ _ s (not-uneven .1) in
-    let not-alone = passed-at (alone (games-in file)) (z .games) _ _ s (not-absent .1) in
+    let not-absent = passed-at (absent (games-of file) (teams-in file)) (z .games) _ _ s (not-uneven .1) in
+    let not-alone = passed-at (alone (games-of file)) (z .games) _ _ s (not-absent .1) in
     let teams-pass = or-parts (ltb (teams-in file) 2) (ltb 64 (teams-in file)) (teams .0) in
     let whole-pass = or-parts (eqb ((length file - (1 + 2 * teams-in file)) % 2) 1) (ltb 1024 (z .games)) (not-uneven .0) in
     let even = eqb-false ((length file - (1 + 2 * teams-in file)) % 2) 1 (whole-pass .0) in
     let few = ltb-false 1024 (z .games) (whole-pass .1) in
     let there = λ (k : ℕ) (l : k < z .games).
-    or-parts (leb (teams-in file) (game-at (games-in file) k .host)) (leb (teams-in file) (game-at (games-in file) k .guest))
+    or-parts (leb (teams-in file) (game-at (games-of file) k .host)) (leb (teams-in file) (game-at (games-of file) k .guest))
     (not-absent .0 k l) in (
       cc,
       record {

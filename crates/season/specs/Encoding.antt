@@ -55,7 +55,7 @@ abbrev pub table-in : List ℕ → Table
 table-in file = record {
   teams = teams-in file;
   points = number-at (points-in file);
-  left = map (λ k. match-of (game-at (games-in file) k)) (counting 0 (sizes-in file .games));
+  left = map (λ k. match-of (game-at (games-in file (sizes-in file)) k)) (counting 0 (sizes-in file .games));
 }
 
 abbrev pub sizes-of : Table → Sizes

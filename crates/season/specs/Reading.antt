@@ -27,12 +27,12 @@ teams-in file = getD file 0 0
 abbrev pub points-in : List ℕ → List ℕ
 points-in file = drop 1 file
 
--- the bytes of the games
-abbrev pub games-in : List ℕ → List ℕ
-games-in file = drop (1 + 2 * teams-in file) file
-
 abbrev pub sizes-in : List ℕ → Sizes
 sizes-in file = record { teams = teams-in file; games = (length file - (1 + 2 * teams-in file)) / 2 }
+
+-- the bytes of the games, which follow the points
+abbrev pub games-in : List ℕ → Sizes → List ℕ
+games-in file s = drop (1 + 2 * s .teams) file
 
 -- fewer than 2 or more than 64 teams
 abbrev pub unserved : ℕ → Bool
@@ -79,8 +79,8 @@ checked file s row points =
     (unless (cut file s) 3 (length file)
     (unless-at (above (points-in file)) (s .teams) 4
     (unless (uneven file s) 5 (length file)
-    (unless-at (absent (games-in file) (s .teams)) (s .games) 6
-    (unless-at (alone (games-in file)) (s .games) 7
+    (unless-at (absent (games-in file s) (s .teams)) (s .games) 6
+    (unless-at (alone (games-in file s)) (s .games) 7
     (given s)))))))
 
 -- the answer of the reader
@@ -97,5 +97,5 @@ points-after (given s) file old = written (number-at (points-in file)) (s .teams
 points-after (refused number place) file old = old
 
 abbrev pub games-after : Told Sizes → List ℕ → List Game → List Game
-games-after (given s) file old = written (game-at (games-in file)) (s .games) old
+games-after (given s) file old = written (game-at (games-in file s)) (s .games) old
 games-after (refused number place) file old = old

@@ -5,7 +5,8 @@ ghost use Prim.Native.Nat.{_+_, _*_, _/_, _<_, _≤_};
 ghost use lib.ListN.{length};
 ghost use Rattle.season.specs.Bytes.{number-at, game-at};
 ghost use Rattle.season.specs.Encoding.{Exact};
-ghost use Rattle.season.specs.Reading.{outcome, points-after, games-after, teams-in, sizes-in, unless-at, unless-short, written};
+ghost use Rattle.season.specs.Reading.{outcome, points-after, games-after, teams-in, sizes-in, points-in, games-in};
+ghost use Rattle.season.specs.Reading.{unless-at, unless-short, written};
 ghost use Rattle.season.specs.Reading.{unserved, cut, above, uneven, absent, alone};
 ghost use Rattle.season.specs.Refused.{told, given, unless};
 use crate::game::Game;
@@ -72,13 +73,22 @@ fn check_points_whole(file: &[u8], sizes: Sizes) -> Result<Sizes, Refusal>
     Ok(sizes)
 }
 
-// Refuses points above 1,000.
-fn check_points(bytes: &[u8], sizes: Sizes) -> Result<Sizes, Refusal>
-    requires { ⌜ sizes .teams ≤ length (now bytes) / 2 ⌝ }
-    ensures { λ r. ⌜ told r ≡ unless-at (above (now (bytes .entry))) (sizes .teams) 4 (given sizes) ⌝ }
+// Whether a team has more than 1,000 points.
+fn is_above(bytes: &[u8], team: usize) -> bool
+    requires { ⌜ team < length (now bytes) / 2 ⌝ }
+    ensures { λ r. ⌜ r ≡ above (now (bytes .entry)) team ⌝ }
 {
+    points_at(bytes, team) > MOST_POINTS
+}
+
+// Refuses points above 1,000.
+fn check_points(file: &[u8], sizes: Sizes) -> Result<Sizes, Refusal>
+    requires { ⌜ 1 + 2 * sizes .teams ≤ length (now file) ⌝ }
+    ensures { λ r. ⌜ told r ≡ unless-at (above (points-in (now (file .entry)))) (sizes .teams) 4 (given sizes) ⌝ }
+{
+    let bytes = &file[1..];
     for team in 0..sizes.teams {
-        if points_at(bytes, team) > MOST_POINTS {
+        if is_above(bytes, team) {
             return Err(Refusal::PointsAbove(team));
         }
     }
@@ -90,41 +100,59 @@ fn check_games_whole(file: &[u8], sizes: Sizes) -> Result<Sizes, Refusal>
     requires { ⌜ 1 + 2 * sizes .teams ≤ length (now file) ⌝ }
     ensures { λ r. ⌜ told r ≡ unless (uneven (now (file .entry)) sizes) 5 (length (now (file .entry))) (given sizes) ⌝ }
 {
-    if (file.len() - (1 + 2 * sizes.teams)) % 2 != 0 || sizes.games > MOST_GAMES {
+    if (file.len() - (1 + 2 * sizes.teams)) % 2 == 1 || sizes.games > MOST_GAMES {
         return Err(Refusal::GamesLength(file.len()));
     }
     Ok(sizes)
 }
 
-// Refuses a game with a team that is not there.
-fn check_teams_there(bytes: &[u8], sizes: Sizes) -> Result<Sizes, Refusal>
-    requires { ⌜ sizes .games ≤ length (now bytes) / 2 ⌝ }
-    ensures { λ r. ⌜ told r ≡ unless-at (absent (now (bytes .entry)) (sizes .teams)) (sizes .games) 6 (given sizes) ⌝ }
+// Whether a game has a team that is not there.
+fn is_absent(bytes: &[u8], teams: usize, k: usize) -> bool
+    requires { ⌜ k < length (now bytes) / 2 ⌝ }
+    ensures { λ r. ⌜ r ≡ absent (now (bytes .entry)) teams k ⌝ }
 {
+    let game = whole_game(bytes, k);
+    game.host as usize >= teams || game.guest as usize >= teams
+}
+
+// Refuses a game with a team that is not there.
+fn check_teams_there(file: &[u8], sizes: Sizes) -> Result<Sizes, Refusal>
+    requires { ⌜ 1 + 2 * sizes .teams + 2 * sizes .games ≤ length (now file) ⌝ }
+    ensures { λ r. ⌜ told r ≡ unless-at (absent (games-in (now (file .entry)) sizes) (sizes .teams)) (sizes .games) 6 (given sizes) ⌝ }
+{
+    let bytes = &file[1 + 2 * sizes.teams..];
     for k in 0..sizes.games {
-        let game = whole_game(bytes, k);
-        if game.host as usize >= sizes.teams || game.guest as usize >= sizes.teams {
+        if is_absent(bytes, sizes.teams, k) {
             return Err(Refusal::NoSuchTeam(k));
         }
     }
     Ok(sizes)
 }
 
-// Refuses a game of a team with itself.
-fn check_two_teams(bytes: &[u8], sizes: Sizes) -> Result<Sizes, Refusal>
-    requires { ⌜ sizes .games ≤ length (now bytes) / 2 ⌝ }
-    ensures { λ r. ⌜ told r ≡ unless-at (alone (now (bytes .entry))) (sizes .games) 7 (given sizes) ⌝ }
+// Whether a game is one of a team with itself.
+fn is_alone(bytes: &[u8], k: usize) -> bool
+    requires { ⌜ k < length (now bytes) / 2 ⌝ }
+    ensures { λ r. ⌜ r ≡ alone (now (bytes .entry)) k ⌝ }
 {
+    let game = whole_game(bytes, k);
+    game.host == game.guest
+}
+
+// Refuses a game of a team with itself.
+fn check_two_teams(file: &[u8], sizes: Sizes) -> Result<Sizes, Refusal>
+    requires { ⌜ 1 + 2 * sizes .teams + 2 * sizes .games ≤ length (now file) ⌝ }
+    ensures { λ r. ⌜ told r ≡ unless-at (alone (games-in (now (file .entry)) sizes)) (sizes .games) 7 (given sizes) ⌝ }
+{
+    let bytes = &file[1 + 2 * sizes.teams..];
     for k in 0..sizes.games {
-        let game = whole_game(bytes, k);
-        if game.host == game.guest {
+        if is_alone(bytes, k) {
             return Err(Refusal::AgainstItself(k));
         }
     }
     Ok(sizes)
 }
 
-// The checks of a table's file, one after the other.
+// The checks of a table's file, one after the other: each hands on the sizes, or its refusal is the answer.
 fn check_file(file: &[u8], row: usize, points: usize) -> Result<Sizes, Refusal>
     ensures { λ r. ⌜ told r ≡ outcome (now (file .entry)) row points ⌝ }
 {
@@ -140,7 +168,7 @@ fn check_file(file: &[u8], row: usize, points: usize) -> Result<Sizes, Refusal>
     let Ok(sizes) = checked else {
         return checked;
     };
-    let checked = check_points(&file[1..], sizes);
+    let checked = check_points(file, sizes);
     let Ok(sizes) = checked else {
         return checked;
     };
@@ -148,32 +176,50 @@ fn check_file(file: &[u8], row: usize, points: usize) -> Result<Sizes, Refusal>
     let Ok(sizes) = checked else {
         return checked;
     };
-    let games = &file[1 + 2 * sizes.teams..];
-    let checked = check_teams_there(games, sizes);
+    let checked = check_teams_there(file, sizes);
     let Ok(sizes) = checked else {
         return checked;
     };
-    check_two_teams(games, sizes)
+    check_two_teams(file, sizes)
 }
 
-fn write_points(bytes: &[u8], points: &mut [u16], teams: usize)
-    requires whole { ⌜ teams ≤ length (now bytes) / 2 ⌝ }
-    requires room { ⌜ teams ≤ length (now points) ⌝ }
-    ensures { λ _. ⌜ now (points .exit) ≡ written (number-at (now (bytes .entry))) teams (now (points .entry)) ⌝ }
+// Writes the points of each team.
+fn write_points(file: &[u8], points: &mut [u16], sizes: Sizes)
+    requires whole { ⌜ 1 + 2 * sizes .teams ≤ length (now file) ⌝ }
+    requires room { ⌜ sizes .teams ≤ length (now points) ⌝ }
+    ensures { λ _. ⌜ now (points .exit) ≡ written (number-at (points-in (now (file .entry)))) (sizes .teams) (now (points .entry)) ⌝ }
 {
-    for team in 0..teams {
+    let bytes = &file[1..];
+    for team in 0..sizes.teams {
         points[team] = points_at(bytes, team);
     }
 }
 
-fn write_games(bytes: &[u8], row: &mut [Game], games: usize)
-    requires whole { ⌜ games ≤ length (now bytes) / 2 ⌝ }
-    requires room { ⌜ games ≤ length (now row) ⌝ }
-    ensures { λ _. ⌜ now (row .exit) ≡ written (game-at (now (bytes .entry))) games (now (row .entry)) ⌝ }
+// Writes the games left.
+fn write_games(file: &[u8], row: &mut [Game], sizes: Sizes)
+    requires whole { ⌜ 1 + 2 * sizes .teams + 2 * sizes .games ≤ length (now file) ⌝ }
+    requires room { ⌜ sizes .games ≤ length (now row) ⌝ }
+    ensures { λ _. ⌜ now (row .exit) ≡ written (game-at (games-in (now (file .entry)) sizes)) (sizes .games) (now (row .entry)) ⌝ }
 {
-    for k in 0..games {
+    let bytes = &file[1 + 2 * sizes.teams..];
+    for k in 0..sizes.games {
         row[k] = whole_game(bytes, k);
     }
+}
+
+// Checks the whole file before the first write.
+fn read_checked(file: &[u8], points: &mut [u16], row: &mut [Game]) -> Result<Sizes, Refusal>
+    ensures answer { λ r. ⌜ told r ≡ outcome (now (file .entry)) (length (now (row .entry))) (length (now (points .entry))) ⌝ }
+    ensures points { λ r. ⌜ now (points .exit) ≡ points-after (told r) (now (file .entry)) (now (points .entry)) ⌝ }
+    ensures games { λ r. ⌜ now (row .exit) ≡ games-after (told r) (now (file .entry)) (now (row .entry)) ⌝ }
+{
+    let checked = check_file(file, row.len(), points.len());
+    let Ok(sizes) = checked else {
+        return checked;
+    };
+    write_points(file, points, sizes);
+    write_games(file, row, sizes);
+    Ok(sizes)
 }
 
 // Reads a table's file into lent memory: the points of each team, and the row of games left. Answers the sizes, or the refusal of
@@ -184,11 +230,5 @@ pub fn read_table(file: &[u8], points: &mut [u16], row: &mut [Game]) -> Result<S
     ensures games { λ r. ⌜ now (row .exit) ≡ games-after (told r) (now (file .entry)) (now (row .entry)) ⌝ }
     ensures exact { λ r. ⌜ Exact (now (file .entry)) r (now (points .exit)) (now (row .exit)) ⌝ }
 {
-    let checked = check_file(file, row.len(), points.len());
-    let Ok(sizes) = checked else {
-        return checked;
-    };
-    write_points(&file[1..], points, sizes.teams);
-    write_games(&file[1 + 2 * sizes.teams..], row, sizes.games);
-    Ok(sizes)
+    read_checked(file, points, row)
 }

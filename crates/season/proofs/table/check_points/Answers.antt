@@ -1,17 +1,15 @@
-use native.Mathlib.Omega.{arith}
-use mathlib.Core.Bool.{true, false}
-use mathlib.Core.Path.{_≡_}
-use Rattle.std.proofs.shelf.Ways.{tells}
+use mathlib.Core.Path.{sym, ap, _∙_}
+use Rattle.std.proofs.shelf.Lists.{take-rest}
 use Rattle.season.proofs.First.{refused-here, passed-more}
 use Rattle.season.proofs.table.check_points.Needs as need
 use Rattle.season.specs.Reading.{above}
 
-pub returns-then-points-at-gt-MOST-POINTS : need.returns-then-points-at-gt-MOST-POINTS
-returns-then-points-at-gt-MOST-POINTS c =
-    let t : above (c .args .bytes .now) (c .loop-team .team) ≡ true = grind (arith, tells) in
-    refused-here _ _ _ _ _ (c .loop-team-test .taken) t (c .loop-team .inv)
+pub returns-then-is-above : need.returns-then-is-above
+returns-then-is-above c =
+    let t = c .if-is-above .ensures tt ∙ ap (λ b. above b (c .loop-team .team)) (take-rest (c .args .file .now) 1) in
+    refused-here _ _ _ _ _ (c .loop-team-test .taken) (sym t) (c .loop-team .inv)
 
 pub loop-team-again : need.loop-team-again
 loop-team-again c =
-    let t : above (c .args .bytes .now) (c .loop-team .team) ≡ false = grind (arith, tells) in
-    passed-more _ _ _ (c .loop-team-test .taken) t (c .loop-team .inv)
+    let t = c .if-is-above .ensures tt ∙ ap (λ b. above b (c .loop-team .team)) (take-rest (c .args .file .now) 1) in
+    passed-more _ _ _ (c .loop-team-test .taken) (sym t) (c .loop-team .inv)
