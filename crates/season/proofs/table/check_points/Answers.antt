@@ -6,10 +6,12 @@ use Rattle.season.specs.Reading.{above}
 
 pub returns-then-is-above : need.returns-then-is-above
 returns-then-is-above c =
-    let t = c .if-is-above .ensures tt ∙ ap (λ b. above b (c .loop-team .team)) (take-rest (c .args .file .now) 1) in
+    let part = take-rest (c .args .file .now) 1 in
+    let t = c .if-is-above .ensures tt ∙ ap (λ b. above b (c .loop-team .team)) part in
     refused-here _ _ _ _ _ (c .loop-team-test .taken) (sym t) (c .loop-team .inv)
 
 pub loop-team-again : need.loop-team-again
 loop-team-again c =
-    let t = c .if-is-above .ensures tt ∙ ap (λ b. above b (c .loop-team .team)) (take-rest (c .args .file .now) 1) in
+    let part = take-rest (c .args .file .now) 1 in
+    let t = c .if-is-above .ensures tt ∙ ap (λ b. above b (c .loop-team .team)) part in
     passed-more _ _ _ (c .loop-team-test .taken) (sym t) (c .loop-team .inv)

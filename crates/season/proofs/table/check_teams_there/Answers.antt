@@ -7,10 +7,12 @@ use Rattle.season.specs.Reading.{absent}
 
 pub returns-then-is-absent : need.returns-then-is-absent
 returns-then-is-absent c =
-    let t = c .if-is-absent .ensures tt ∙ ap (λ b. absent b (c .args .sizes .teams) (c .loop-k .k)) (take-rest (c .args .file .now) (1 + 2 * c .args .sizes .teams)) in
+    let part = take-rest (c .args .file .now) (1 + 2 * c .args .sizes .teams) in
+    let t = c .if-is-absent .ensures tt ∙ ap (λ b. absent b (c .args .sizes .teams) (c .loop-k .k)) part in
     refused-here _ _ _ _ _ (c .loop-k-test .taken) (sym t) (c .loop-k .inv)
 
 pub loop-k-again : need.loop-k-again
 loop-k-again c =
-    let t = c .if-is-absent .ensures tt ∙ ap (λ b. absent b (c .args .sizes .teams) (c .loop-k .k)) (take-rest (c .args .file .now) (1 + 2 * c .args .sizes .teams)) in
+    let part = take-rest (c .args .file .now) (1 + 2 * c .args .sizes .teams) in
+    let t = c .if-is-absent .ensures tt ∙ ap (λ b. absent b (c .args .sizes .teams) (c .loop-k .k)) part in
     passed-more _ _ _ (c .loop-k-test .taken) (sym t) (c .loop-k .inv)

@@ -7,10 +7,12 @@ use Rattle.season.specs.Reading.{alone}
 
 pub returns-then-is-alone : need.returns-then-is-alone
 returns-then-is-alone c =
-    let t = c .if-is-alone .ensures tt ∙ ap (λ b. alone b (c .loop-k .k)) (take-rest (c .args .file .now) (1 + 2 * c .args .sizes .teams)) in
+    let part = take-rest (c .args .file .now) (1 + 2 * c .args .sizes .teams) in
+    let t = c .if-is-alone .ensures tt ∙ ap (λ b. alone b (c .loop-k .k)) part in
     refused-here _ _ _ _ _ (c .loop-k-test .taken) (sym t) (c .loop-k .inv)
 
 pub loop-k-again : need.loop-k-again
 loop-k-again c =
-    let t = c .if-is-alone .ensures tt ∙ ap (λ b. alone b (c .loop-k .k)) (take-rest (c .args .file .now) (1 + 2 * c .args .sizes .teams)) in
+    let part = take-rest (c .args .file .now) (1 + 2 * c .args .sizes .teams) in
+    let t = c .if-is-alone .ensures tt ∙ ap (λ b. alone b (c .loop-k .k)) part in
     passed-more _ _ _ (c .loop-k-test .taken) (sym t) (c .loop-k .inv)
