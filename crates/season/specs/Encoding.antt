@@ -27,6 +27,7 @@ abbrev pub pairs : {A : Type 0} → (A → ℕ) → (A → ℕ) → List A → L
 pairs a b [] = []
 pairs a b (x ∷ xs) = a x ∷ b x ∷ pairs a b xs
 
+-- the low byte first
 abbrev pub points-bytes : List ℕ → List ℕ
 points-bytes points = pairs (λ p. p % 256) (λ p. p / 256) points
 
@@ -43,6 +44,7 @@ pub record Same (t u : Table) : Type 0 where
   pub points : (i : ℕ) → i < t .teams → t .points i ≡ u .points i
   pub left : t .left ≡ u .left
 
+-- a game of the code as a match
 abbrev pub match-of : Game → Match
 match-of g = record { host = g .host; guest = g .guest }
 
@@ -58,6 +60,7 @@ table-in file = record {
   left = map (λ k. match-of (game-at (games-in file (sizes-in file)) k)) (counting 0 (sizes-in file .games));
 }
 
+-- the sizes of a table
 abbrev pub sizes-of : Table → Sizes
 sizes-of t = record { teams = t .teams; games = length (t .left) }
 

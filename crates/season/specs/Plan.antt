@@ -1,7 +1,7 @@
 -- Plans of a season: in each round every team has one opponent, and one of the two is at home. Breaks. The plan by circles.
 use mathlib.Core.Path.{_≡_}
 use mathlib.Core.Logic.{_≢_}
-use mathlib.Core.Bool.{Bool, true, false, not}
+use mathlib.Core.Bool.{Bool, true, false, not, _||_}
 use Prim.Native.Nat.{ℕ, zero, suc, _+_, _*_, _-_, _%_, _≤_, _<_}
 use lib.Dec.{ltb, eqb}
 
@@ -28,6 +28,7 @@ pub record Proper (n : ℕ) (s : Plan) : Type 0 where
   pub one-home : (r i : ℕ) → r < n - 1 → i < n → s .home r (s .against r i) ≡ not (s .home r i)
   pub meet : (i j : ℕ) → i < n → j < n → i ≢ j → (r : ℕ) × (r < n - 1) × (s .against r i ≡ j)
 
+-- both true or both false
 unfoldable pub equal : Bool → Bool → Bool
 equal true b = b
 equal false b = not b
@@ -49,6 +50,11 @@ pub record Best-plan (n : ℕ) (s : Plan) : Type 0 where
   pub proper : Proper n s
   pub fewest : (q : Plan) → Proper n q → breaks n s ≤ breaks n q
 
+-- no plan is made for an odd number of teams, none, or more than 64
+abbrev pub unplanned : ℕ → Bool
+unplanned n = eqb (n % 2) 1 || (eqb n 0 || ltb 64 n)
+
+-- x modulo m
 unfoldable pub rest : ℕ → ℕ → ℕ
 rest m x = x % m
 

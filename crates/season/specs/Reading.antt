@@ -20,6 +20,7 @@ first p k (suc n) = cond (p k) k (first p (suc k) n)
 abbrev pub unless-at : {A : Type 0} → (ℕ → Bool) → ℕ → ℕ → Told A → Told A
 unless-at p n number after = unless (ltb (first p 0 n) n) number (first p 0 n) after
 
+-- the number of teams, 0 where the file has no byte
 abbrev pub teams-in : List ℕ → ℕ
 teams-in file = getD file 0 0
 
@@ -27,6 +28,7 @@ teams-in file = getD file 0 0
 abbrev pub points-in : List ℕ → List ℕ
 points-in file = drop 1 file
 
+-- the teams, and the whole games past the points
 abbrev pub sizes-in : List ℕ → Sizes
 sizes-in file = record { teams = teams-in file; games = (length file - (1 + 2 * teams-in file)) / 2 }
 

@@ -1,21 +1,15 @@
 -- Refusals by number and place, and what an answer tells that may be a refusal.
 use mathlib.Core.Path.{_≡_}
 use Prim.Native.Nat.{ℕ}
-use mathlib.Core.Bool.{Bool, cond}
+use mathlib.Core.Bool.{Bool, true, false, cond}
 use Rattle.std.specs.declared.result.Result.{Result}
 use Rattle.std.specs.declared.result.Result.the-variants.{Ok, Err}
-use Rattle.season.specs.declared.refusal.Lent.{Lent}
 use Rattle.season.specs.declared.refusal.Lent.the-variants.{Row, Points, Flow}
 use Rattle.season.specs.declared.refusal.Refusal.{Refusal}
 use Rattle.season.specs.declared.refusal.Refusal.the-variants.{PlanTeams, TableTeams, FileEnds, PointsAbove, GamesLength}
 use Rattle.season.specs.declared.refusal.Refusal.the-variants.{NoSuchTeam, AgainstItself, AuditPlan, AuditEnding, MemoryShort}
 
--- which memory was too short
-abbrev pub lent-place : Lent → ℕ
-lent-place Row = 0
-lent-place Points = 1
-lent-place Flow = 2
-
+-- the number of the rule that applies
 abbrev pub number-of : Refusal → ℕ
 number-of PlanTeams = 1
 number-of TableTeams = 2
@@ -28,6 +22,7 @@ number-of (AuditPlan at) = 8
 number-of (AuditEnding at) = 9
 number-of (MemoryShort lent) = 10
 
+-- the place where it applies
 abbrev pub place-of : Refusal → ℕ
 place-of PlanTeams = 0
 place-of TableTeams = 0
@@ -38,7 +33,9 @@ place-of (NoSuchTeam at) = at
 place-of (AgainstItself at) = at
 place-of (AuditPlan at) = at
 place-of (AuditEnding at) = at
-place-of (MemoryShort lent) = lent-place lent
+place-of (MemoryShort Row) = 0
+place-of (MemoryShort Points) = 1
+place-of (MemoryShort Flow) = 2
 
 -- number and place tell refusals apart, so that a contract by them pins the refusal
 abbrev pub Told-apart : Type 0
@@ -49,9 +46,15 @@ pub data Told (A : Type 0) : Type 0 where
   given : A → Told A
   refused : ℕ → ℕ → Told A
 
+-- what a function tells that answers or refuses
 abbrev pub told : {A : Type 0} → Result A Refusal → Told A
 told (Ok a) = given a
 told (Err e) = refused (number-of e) (place-of e)
+
+-- whether something was given
+abbrev pub isGiven : {A : Type 0} → Told A → Bool
+isGiven (given a) = true
+isGiven (refused number place) = false
 
 -- one check of a list: refused where it applies, else what the checks after it tell
 abbrev pub unless : {A : Type 0} → Bool → ℕ → ℕ → Told A → Told A

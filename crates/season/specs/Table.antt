@@ -8,10 +8,12 @@ use lib.Dec.{eqb}
 use lib.ListN.{length, getD}
 use Rattle.season.specs.Plan.{pick, span}
 
+-- a match of two teams, by their numbers
 pub record Match : Type 0 where
   pub host : ℕ
   pub guest : ℕ
 
+-- a table: how many teams, the points of each, and the matches left in order
 pub record Table : Type 0 where
   pub teams : ℕ
   pub points : ℕ → ℕ

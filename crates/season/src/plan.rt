@@ -1,10 +1,10 @@
 // Plans as bytes: for each round its games, host and guest, one byte each.
 ghost use mathlib.Core.Path.{_≡_};
-ghost use mathlib.Core.Bool.{not, _||_};
-ghost use Prim.Native.Nat.{_+_, _*_, _%_};
-ghost use lib.Dec.{eqb, leb, ltb};
+ghost use Prim.Native.Nat.{_+_, _*_};
+ghost use lib.Dec.{leb};
 ghost use lib.ListN.{length};
 ghost use Rattle.season.specs.Bytes.{round-at};
+ghost use Rattle.season.specs.Plan.{unplanned};
 ghost use Rattle.season.specs.Refused.{told, given, unless};
 ghost use Rattle.std.specs.Options.{isSome};
 ghost use Rattle.std.specs.Slices.{found};
@@ -14,9 +14,9 @@ pub const MOST_TEAMS: usize = 64;
 
 // The number of teams, if a plan can be made for so many: an even number from 2 to 64.
 pub fn plan_teams(n: usize) -> Result<usize, Refusal>
-    ensures { λ r. ⌜ told r ≡ unless (not (eqb (n % 2) 0) || (eqb n 0 || ltb 64 n)) 1 0 (given n) ⌝ }
+    ensures { λ r. ⌜ told r ≡ unless (unplanned n) 1 0 (given n) ⌝ }
 {
-    if n % 2 != 0 || n == 0 || n > MOST_TEAMS {
+    if n % 2 == 1 || n == 0 || n > MOST_TEAMS {
         return Err(Refusal::PlanTeams);
     }
     Ok(n)

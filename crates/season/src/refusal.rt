@@ -2,31 +2,17 @@
 ghost use mathlib.Core.Path.{_≡_};
 ghost use mathlib.Core.List.{_++_};
 ghost use lib.Chars.{codes};
-ghost use Rattle.season.specs.Refused.{number-of, place-of, lent-place};
+ghost use Rattle.season.specs.Refused.{number-of, place-of};
 ghost use Rattle.std.specs.Written.{decimal};
 ghost use Rattle.std.specs.declared.option.Option.the-variants.{Some};
 use std::fmt;
 
-// Lent memory, by what it is for.
+// Lent memory, by what it is for: rounds of a plan or a row of games, points, or the flow.
 #[derive(Clone, Copy, PartialEq, Eq, Debug)]
 pub enum Lent {
-    // rounds of a plan, or a row of games
     Row,
     Points,
     Flow,
-}
-
-impl Lent {
-    // 0 for rounds or a row of games, 1 for points, 2 for the flow.
-    pub fn place(self) -> usize
-        ensures { λ r. ⌜ r ≡ lent-place self ⌝ }
-    {
-        match self {
-            Lent::Row => 0,
-            Lent::Points => 1,
-            Lent::Flow => 2,
-        }
-    }
 }
 
 // Why something is turned away; the number in a case is its place.
@@ -51,7 +37,7 @@ pub enum Refusal {
     // 9: an ending to audit of another length than the row of games, at that length, with a byte above 2, at the game,
     // or for a team that is not there, at 0
     AuditEnding(usize),
-    // 10: lent memory that is too short
+    // 10: lent memory that is too short, at 0 for rounds or a row of games, 1 for points, 2 for the flow
     MemoryShort(Lent),
 }
 
@@ -80,6 +66,9 @@ impl Refusal {
     {
         match self {
             Refusal::PlanTeams | Refusal::TableTeams => 0,
+            Refusal::MemoryShort(Lent::Row) => 0,
+            Refusal::MemoryShort(Lent::Points) => 1,
+            Refusal::MemoryShort(Lent::Flow) => 2,
             Refusal::FileEnds(at)
             | Refusal::PointsAbove(at)
             | Refusal::GamesLength(at)
@@ -87,7 +76,6 @@ impl Refusal {
             | Refusal::AgainstItself(at)
             | Refusal::AuditPlan(at)
             | Refusal::AuditEnding(at) => at,
-            Refusal::MemoryShort(lent) => lent.place(),
         }
     }
 }

@@ -1,4 +1,9 @@
 // Reads a table's file, and says what it holds.
+ghost use mathlib.Core.Path.{_≡_};
+ghost use mathlib.Core.Bool.{true, false};
+ghost use Rattle.season.specs.Reading.{outcome};
+ghost use Rattle.season.specs.Refused.{isGiven};
+ghost use Rattle.std.specs.Results.{isOk};
 use season::game::Game;
 use season::refusal::RefusalDisplay;
 use season::table::read_table;
@@ -48,12 +53,16 @@ fn read_words(rt: &LibcRuntime) -> io::Result<Asked> {
 }
 
 // Ends the program with status 1, once it has said why.
-fn stop() -> io::Result<()> {
+fn stop() -> io::Result<()>
+    ensures { λ r. ⌜ isOk r ≡ false ⌝ }
+{
     Err(io::Error::from(io::ErrorKind::InvalidInput))
 }
 
-// Prints what the file holds, or the refusal.
-fn tell(rt: &LibcRuntime, file: &[u8]) -> io::Result<()> {
+// Prints what the file holds, or the refusal. It ends well only if the file is taken.
+fn tell(rt: &LibcRuntime, file: &[u8]) -> io::Result<()>
+    ensures { λ r. ⌜ (isOk r ≡ true → isGiven (outcome (now (file .entry)) 256 32) ≡ true) ⌝ }
+{
     let mut points = [0u16; TEAMS];
     let mut row = [Game { host: 0, guest: 0 }; GAMES];
     match read_table(file, &mut points, &mut row) {
@@ -69,24 +78,38 @@ fn tell(rt: &LibcRuntime, file: &[u8]) -> io::Result<()> {
     }
 }
 
+// Goes on with what was read, or says what could not be.
+fn go_on(rt: &LibcRuntime, name: &str, read: io::Result<Vec<u8>>) -> io::Result<()> {
+    match read {
+        Ok(file) => tell(rt, &file),
+        Err(why) => {
+            eprintln!(rt, "season_first: {name}: {why}")?;
+            stop()
+        }
+    }
+}
+
+fn read_input(rt: &LibcRuntime) -> io::Result<Vec<u8>> {
+    let mut file = Vec::new(rt.alloc());
+    rt.stdin().read_to_end(&mut file)?;
+    Ok(file)
+}
+
 fn main(rt: LibcRuntime) -> io::Result<()> {
-    match read_words(&rt)? {
-        Asked::Help => println!(rt, "{USAGE}"),
-        Asked::Unclear(why) => {
+    match read_words(&rt) {
+        Ok(Asked::Help) => println!(rt, "{USAGE}"),
+        Ok(Asked::Input) => go_on(&rt, "standard input", read_input(&rt)),
+        Ok(Asked::File(path)) => go_on(&rt, path.as_str(), fs::read(&rt, path.as_str())),
+        Ok(Asked::Unclear(why)) => {
             eprintln!(rt, "season_first: {why}\n\n{USAGE}")?;
             stop()
         }
-        Asked::Input => {
-            let mut file = Vec::new(rt.alloc());
-            rt.stdin().read_to_end(&mut file)?;
-            tell(&rt, &file)
+        Err(why) => {
+            eprintln!(
+                rt,
+                "season_first: the words of the call cannot be read: {why}"
+            )?;
+            stop()
         }
-        Asked::File(path) => match fs::read(&rt, path.as_str()) {
-            Ok(file) => tell(&rt, &file),
-            Err(why) => {
-                eprintln!(rt, "season_first: {path}: {why}")?;
-                stop()
-            }
-        },
     }
 }

@@ -1,5 +1,9 @@
 // Says of a number of teams whether a plan can be made for it.
+ghost use mathlib.Core.Path.{_≡_};
+ghost use mathlib.Core.Bool.{true, false};
+ghost use Rattle.season.specs.Plan.{unplanned};
 ghost use Rattle.season_plan.specs.Words.{Numbered};
+ghost use Rattle.std.specs.Results.{isOk};
 use season::plan::plan_teams;
 use season::refusal::RefusalDisplay;
 use std::env;
@@ -59,26 +63,42 @@ fn read_words(rt: &LibcRuntime) -> io::Result<Asked> {
 }
 
 // Ends the program with status 1, once it has said why.
-fn stop() -> io::Result<()> {
+fn stop() -> io::Result<()>
+    ensures { λ r. ⌜ isOk r ≡ false ⌝ }
+{
     Err(io::Error::from(io::ErrorKind::InvalidInput))
 }
 
+// Prints how many rounds there are, or the refusal. It ends well only if a plan is made for so many teams.
+fn tell(rt: &LibcRuntime, n: usize) -> io::Result<()>
+    ensures { λ r. ⌜ (isOk r ≡ true → unplanned n ≡ false) ⌝ }
+{
+    match plan_teams(n) {
+        Ok(teams) => {
+            let rounds = teams - 1;
+            println!(rt, "teams {teams}, rounds {rounds}")
+        }
+        Err(refusal) => {
+            println!(rt, "{refusal}")?;
+            stop()
+        }
+    }
+}
+
 fn main(rt: LibcRuntime) -> io::Result<()> {
-    match read_words(&rt)? {
-        Asked::Help => println!(rt, "{USAGE}"),
-        Asked::Unclear(why) => {
+    match read_words(&rt) {
+        Ok(Asked::Help) => println!(rt, "{USAGE}"),
+        Ok(Asked::Teams(n)) => tell(&rt, n),
+        Ok(Asked::Unclear(why)) => {
             eprintln!(rt, "season_plan: {why}\n\n{USAGE}")?;
             stop()
         }
-        Asked::Teams(n) => match plan_teams(n) {
-            Ok(teams) => {
-                let rounds = teams - 1;
-                println!(rt, "teams {teams}, rounds {rounds}")
-            }
-            Err(refusal) => {
-                println!(rt, "{refusal}")?;
-                stop()
-            }
-        },
+        Err(why) => {
+            eprintln!(
+                rt,
+                "season_plan: the words of the call cannot be read: {why}"
+            )?;
+            stop()
+        }
     }
 }
