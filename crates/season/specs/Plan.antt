@@ -50,10 +50,6 @@ pub record Best-plan (n : ℕ) (s : Plan) : Type 0 where
   pub proper : Proper n s
   pub fewest : (q : Plan) → Proper n q → breaks n s ≤ breaks n q
 
--- no plan is made for an odd number of teams, none, or more than 64
-abbrev pub unplanned : ℕ → Bool
-unplanned n = eqb (n % 2) 1 || (eqb n 0 || ltb 64 n)
-
 -- x modulo m
 unfoldable pub rest : ℕ → ℕ → ℕ
 rest m x = x % m
@@ -69,3 +65,7 @@ circle n = record {
   home = λ r i. pick (eqb i (n - 1)) (eqb (r % 2) 0) (pick (eqb i r) (eqb (r % 2) 1)
       (pick (ltb (2 * ahead (n - 1) r i) n) (eqb (ahead (n - 1) r i % 2) 1) (eqb ((n - 1 - ahead (n - 1) r i) % 2) 0)));
 }
+
+-- the numbers of teams for which no plan is made: an odd one, none, or more than 64
+abbrev pub unplanned : ℕ → Bool
+unplanned n = eqb (n % 2) 1 || (eqb n 0 || ltb 64 n)

@@ -15,7 +15,7 @@ pub enum Lent {
     Flow,
 }
 
-// Why something is turned away; the number in a case is its place.
+// Why something is turned away. A case holds its place, where that is not always 0.
 #[derive(Clone, Copy, PartialEq, Eq, Debug)]
 pub enum Refusal {
     // 1: a plan for an odd number of teams, for none, or for more than 64

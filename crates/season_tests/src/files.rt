@@ -240,6 +240,23 @@ fn the_largest_table_is_read(rt: LibcRuntime) -> Result<(), Fail> {
     )
 }
 
+// The same file with another last byte.
+fn with_last(mut file: Vec<u8>, byte: u8) -> Result<Vec<u8>, Fail> {
+    let _ = file.pop();
+    file.push(byte)?;
+    Ok(file)
+}
+
+#[test]
+fn the_last_places_are_told(rt: LibcRuntime) -> Result<(), Fail> {
+    let points = with_last(full_file(&rt, 0)?, 4)?;
+    check_refused(&points, Refusal::PointsAbove(63))?;
+    let games = with_last(full_file(&rt, 1024)?, 64)?;
+    check_refused(&games, Refusal::NoSuchTeam(1023))?;
+    let games = with_last(games, 63)?;
+    check_refused(&games, Refusal::AgainstItself(1023))
+}
+
 #[test]
 fn a_row_of_1025_games_is_too_long(rt: LibcRuntime) -> Result<(), Fail> {
     let file = full_file(&rt, 1025)?;
