@@ -15,7 +15,7 @@ use Rattle.season.specs.declared.table.Sizes.{Sizes}
 use Rattle.season.specs.Bytes.{number-at, game-at}
 use Rattle.season.specs.Encoding.{Within, Same, Read-back, points-bytes, match-bytes, encoded, match-of, table-in, sizes-of}
 use Rattle.season.specs.Reading.{first, outcome, checked, unless-at, unless-short, points-in, games-in, sizes-in}
-use Rattle.season.specs.Reading.{unserved, cut, above, uneven, absent, alone}
+use Rattle.season.specs.Reading.{unserved, cut, above, wrong-length, absent, against-itself}
 use Rattle.season.specs.Refused.{Told, given, refused, unless}
 use Rattle.season.specs.Table.{Match, Table}
 use Rattle.season.proofs.First.{first-none}
@@ -79,8 +79,8 @@ module _ (t : Table) (w : Within t) where
   not-above : (i : ℕ) → i < t .teams → above (points-in (encoded t)) i ≡ false
   not-above i l = le-ltb 1000 (number-at (points-in (encoded t)) i) (omega (arith, points-at i l, w .points-low i l))
 
-  not-uneven : uneven (encoded t) (sizes-of t) ≡ false
-  not-uneven =
+  length-right : wrong-length (encoded t) (sizes-of t) ≡ false
+  length-right =
       let even : (length (encoded t) - (1 + 2 * t .teams)) % 2 ≡ 0 = omega (arith, length-file) in
       or-from _ _ (ne-eqb _ 1 (omega (arith, even))) (le-ltb 1024 (length (t .left)) (w .left-few))
 
@@ -92,17 +92,17 @@ module _ (t : Table) (w : Within t) where
         let guest : game k .guest < t .teams = rw (guest-at k none l) (inside .1) in
         or-from _ _ (lt-leb _ _ host) (lt-leb _ _ guest)
 
-    not-alone : alone (games-in (encoded t) (sizes-of t)) k ≡ false
-    not-alone = ne-eqb _ _ (rw (host-at k none l, guest-at k none l) (w .sound .inside k none l .2))
+    not-against-itself : against-itself (games-in (encoded t) (sizes-of t)) k ≡ false
+    not-against-itself = ne-eqb _ _ (rw (host-at k none l, guest-at k none l) (w .sound .inside k none l .2))
 
   passes : (row points : ℕ) → outcome (encoded t) row points ≡ unless-short (sizes-of t) row points (given (sizes-of t))
   passes row points =
       let s = sizes-of t in
       let rest = pass (cut (encoded t) s) 3 _ _ not-cut
       ∙ pass-at (above (points-in (encoded t))) (t .teams) 4 _ not-above
-      ∙ pass (uneven (encoded t) s) 5 _ _ not-uneven
+      ∙ pass (wrong-length (encoded t) s) 5 _ _ length-right
       ∙ pass-at (absent (games-in (encoded t) (sizes-of t)) (t .teams)) (length (t .left)) 6 _ not-absent
-      ∙ pass-at (alone (games-in (encoded t) (sizes-of t))) (length (t .left)) 7 (given s) not-alone in
+      ∙ pass-at (against-itself (games-in (encoded t) (sizes-of t))) (length (t .left)) 7 (given s) not-against-itself in
       ap (λ z. checked (encoded t) z row points) sizes
       ∙ pass (unserved (t .teams)) 2 0 _ not-unserved
       ∙ ap (unless-short s row points) rest

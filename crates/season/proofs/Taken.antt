@@ -11,7 +11,7 @@ use Rattle.std.proofs.shelf.Tests.{ltb-false, leb-false, eqb-false, or-parts}
 use Rattle.season.specs.declared.table.Sizes.{Sizes}
 use Rattle.season.specs.Bytes.{number-at, game-at}
 use Rattle.season.specs.Reading.{first, unless-at, outcome, teams-in, points-in, games-in, sizes-in}
-use Rattle.season.specs.Reading.{unserved, row-short, points-short, cut, above, uneven, absent, alone}
+use Rattle.season.specs.Reading.{unserved, row-short, points-short, cut, above, wrong-length, absent, against-itself}
 use Rattle.season.specs.Refused.{Told, given, unless}
 use Rattle.season.proofs.First.{none-before}
 
@@ -56,11 +56,11 @@ taken file row points s e =
     let points-past = passed (points-short z points) _ _ _ s (row-past .1) in
     let not-cut = passed (cut file z) _ _ _ s (points-past .1) in
     let not-above = passed-at (above (points-in file)) (teams-in file) _ _ s (not-cut .1) in
-    let not-uneven = passed (uneven file z) _ _ _ s (not-above .1) in
-    let not-absent = passed-at (absent (games-of file) (teams-in file)) (z .games) _ _ s (not-uneven .1) in
-    let not-alone = passed-at (alone (games-of file)) (z .games) _ _ s (not-absent .1) in
+    let length-right = passed (wrong-length file z) _ _ _ s (not-above .1) in
+    let not-absent = passed-at (absent (games-of file) (teams-in file)) (z .games) _ _ s (length-right .1) in
+    let not-against-itself = passed-at (against-itself (games-of file)) (z .games) _ _ s (not-absent .1) in
     let teams-pass = or-parts (ltb (teams-in file) 2) (ltb 64 (teams-in file)) (teams .0) in
-    let whole-pass = or-parts (eqb ((length file - (1 + 2 * teams-in file)) % 2) 1) (ltb 1024 (z .games)) (not-uneven .0) in
+    let whole-pass = or-parts (eqb ((length file - (1 + 2 * teams-in file)) % 2) 1) (ltb 1024 (z .games)) (length-right .0) in
     let even = eqb-false ((length file - (1 + 2 * teams-in file)) % 2) 1 (whole-pass .0) in
     let few = ltb-false 1024 (z .games) (whole-pass .1) in
     let there = λ (k : ℕ) (l : k < z .games).
@@ -77,6 +77,6 @@ taken file row points s e =
         few = few;
         host-there = λ k l. leb-false _ _ (there k l .0);
         guest-there = λ k l. leb-false _ _ (there k l .1);
-        apart = λ k l. eqb-false _ _ (not-alone .0 k l);
+        apart = λ k l. eqb-false _ _ (not-against-itself .0 k l);
       },
     )

@@ -61,16 +61,16 @@ abbrev pub above : List ℕ → ℕ → Bool
 above bytes team = ltb 1000 (number-at bytes team)
 
 -- games that are not two bytes each, or more than 1,024
-abbrev pub uneven : List ℕ → Sizes → Bool
-uneven file s = eqb ((length file - (1 + 2 * s .teams)) % 2) 1 || ltb 1024 (s .games)
+abbrev pub wrong-length : List ℕ → Sizes → Bool
+wrong-length file s = eqb ((length file - (1 + 2 * s .teams)) % 2) 1 || ltb 1024 (s .games)
 
 -- a game with a team that is not there
 abbrev pub absent : List ℕ → ℕ → ℕ → Bool
 absent bytes teams k = leb teams (game-at bytes k .host) || leb teams (game-at bytes k .guest)
 
 -- a game of a team with itself
-abbrev pub alone : List ℕ → ℕ → Bool
-alone bytes k = eqb (game-at bytes k .host) (game-at bytes k .guest)
+abbrev pub against-itself : List ℕ → ℕ → Bool
+against-itself bytes k = eqb (game-at bytes k .host) (game-at bytes k .guest)
 
 -- the checks in their order: of the sizes that the file's first byte and its length give, with room for a row of so many
 -- games and for the points of so many teams
@@ -80,9 +80,9 @@ checked file s row points =
     (unless-short s row points
     (unless (cut file s) 3 (length file)
     (unless-at (above (points-in file)) (s .teams) 4
-    (unless (uneven file s) 5 (length file)
+    (unless (wrong-length file s) 5 (length file)
     (unless-at (absent (games-in file s) (s .teams)) (s .games) 6
-    (unless-at (alone (games-in file s)) (s .games) 7
+    (unless-at (against-itself (games-in file s)) (s .games) 7
     (given s)))))))
 
 -- the answer of the reader

@@ -7,7 +7,7 @@ ghost use Rattle.season.specs.Bytes.{number-at, game-at};
 ghost use Rattle.season.specs.Encoding.{Exact};
 ghost use Rattle.season.specs.Reading.{outcome, points-after, games-after, teams-in, sizes-in, points-in, games-in};
 ghost use Rattle.season.specs.Reading.{unless-at, unless-short, written};
-ghost use Rattle.season.specs.Reading.{unserved, cut, above, uneven, absent, alone};
+ghost use Rattle.season.specs.Reading.{unserved, cut, above, wrong-length, absent, against-itself};
 ghost use Rattle.season.specs.Refused.{told, given, unless};
 use crate::game::Game;
 use crate::game::whole_game;
@@ -98,7 +98,7 @@ fn check_points(file: &[u8], sizes: Sizes) -> Result<Sizes, Refusal>
 // Refuses games that are not two bytes each, and more than 1,024 of them.
 fn check_games_whole(file: &[u8], sizes: Sizes) -> Result<Sizes, Refusal>
     requires { ⌜ 1 + 2 * sizes .teams ≤ length (now file) ⌝ }
-    ensures { λ r. ⌜ told r ≡ unless (uneven (now (file .entry)) sizes) 5 (length (now (file .entry))) (given sizes) ⌝ }
+    ensures { λ r. ⌜ told r ≡ unless (wrong-length (now (file .entry)) sizes) 5 (length (now (file .entry))) (given sizes) ⌝ }
 {
     if (file.len() - (1 + 2 * sizes.teams)) % 2 == 1 || sizes.games > MOST_GAMES {
         return Err(Refusal::GamesLength(file.len()));
@@ -130,9 +130,9 @@ fn check_teams_there(file: &[u8], sizes: Sizes) -> Result<Sizes, Refusal>
 }
 
 // Whether a game is one of a team with itself.
-fn is_alone(bytes: &[u8], k: usize) -> bool
+fn is_against_itself(bytes: &[u8], k: usize) -> bool
     requires { ⌜ k < length (now bytes) / 2 ⌝ }
-    ensures { λ r. ⌜ r ≡ alone (now (bytes .entry)) k ⌝ }
+    ensures { λ r. ⌜ r ≡ against-itself (now (bytes .entry)) k ⌝ }
 {
     let game = whole_game(bytes, k);
     game.host == game.guest
@@ -141,11 +141,11 @@ fn is_alone(bytes: &[u8], k: usize) -> bool
 // Refuses a game of a team with itself.
 fn check_two_teams(file: &[u8], sizes: Sizes) -> Result<Sizes, Refusal>
     requires { ⌜ 1 + 2 * sizes .teams + 2 * sizes .games ≤ length (now file) ⌝ }
-    ensures { λ r. ⌜ told r ≡ unless-at (alone (games-in (now (file .entry)) sizes)) (sizes .games) 7 (given sizes) ⌝ }
+    ensures { λ r. ⌜ told r ≡ unless-at (against-itself (games-in (now (file .entry)) sizes)) (sizes .games) 7 (given sizes) ⌝ }
 {
     let bytes = &file[1 + 2 * sizes.teams..];
     for k in 0..sizes.games {
-        if is_alone(bytes, k) {
+        if is_against_itself(bytes, k) {
             return Err(Refusal::AgainstItself(k));
         }
     }

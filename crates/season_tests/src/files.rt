@@ -138,7 +138,12 @@ fn memory_is_one_entry_short() -> Result<(), Fail> {
 // The order of the checks: number of teams, memory, points, games, teams there, two teams.
 #[test]
 fn the_number_of_teams_is_looked_at_first() -> Result<(), Fail> {
-    check_eq(answer(&[65], 0, 0), Err(Refusal::TableTeams)).note("and too little memory")?;
+    check_eq(answer(&[1, 0, 0, 0, 0], 1, 0), Err(Refusal::TableTeams)).note(
+        "and too little memory for the row",
+    )?;
+    check_eq(answer(&[65], 0, 0), Err(Refusal::TableTeams)).note(
+        "and too little memory for the points",
+    )?;
     check_refused(&[65, 0], Refusal::TableTeams).note("and a file that ends early")?;
     check_refused(&[1, 233, 3], Refusal::TableTeams).note("and points above 1,000")?;
     check_refused(&[1, 0, 0, 0], Refusal::TableTeams).note("and half a game")?;
