@@ -3,7 +3,8 @@ ghost use mathlib.Core.Path.{_≡_};
 ghost use mathlib.Core.Bool.{true, false};
 ghost use Rattle.season.specs.Reading.{outcome};
 ghost use Rattle.season.specs.Refused.{isGiven};
-ghost use Rattle.std.specs.Results.{isOk};
+ghost use Rattle.std.specs.Of.Vec.{vec-items};
+ghost use Rattle.std.specs.Results.{Cases, isOk};
 use season::game::Game;
 use season::refusal::RefusalDisplay;
 use season::table::read_table;
@@ -78,8 +79,10 @@ fn tell(rt: &LibcRuntime, file: &[u8]) -> io::Result<()>
     }
 }
 
-// Goes on with what was read, or says what could not be.
-fn go_on(rt: &LibcRuntime, name: &str, read: io::Result<Vec<u8>>) -> io::Result<()> {
+// Tells of the file that was read, or says that it could not be. It ends well only if it was read, and is taken.
+fn go_on(rt: &LibcRuntime, name: &str, read: io::Result<Vec<u8>>) -> io::Result<()>
+    ensures { λ r. ⌜ Cases read (λ v. isOk r ≡ true → isGiven (outcome (vec-items v) 256 32) ≡ true) (λ _. isOk r ≡ false) ⌝ }
+{
     match read {
         Ok(file) => tell(rt, &file),
         Err(why) => {

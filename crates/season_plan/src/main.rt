@@ -3,12 +3,13 @@ ghost use mathlib.Core.Path.{_≡_};
 ghost use mathlib.Core.Bool.{true, false};
 ghost use Rattle.season.specs.Plan.{unplanned};
 ghost use Rattle.season_plan.specs.Words.{Numbered};
+ghost use Rattle.std.specs.Orderings.{Decides};
+ghost use Rattle.std.specs.Reads.{Numeral, afterPlus};
 ghost use Rattle.std.specs.Results.{isOk};
 use season::plan::plan_teams;
 use season::refusal::RefusalDisplay;
 use std::env;
 use std::io;
-use std::num::IntErrorKind;
 
 const USAGE: &str = "\
 usage: season_plan TEAMS
@@ -26,16 +27,43 @@ enum Asked {
     Unclear(String),
 }
 
+// Whether there is one decimal digit or more, and nothing else.
+fn all_digits(bytes: &[u8]) -> bool
+    ensures { λ r. ⌜ Decides r (Numeral 10 (now (bytes .entry))) ⌝ }
+{
+    for b in bytes {
+        if *b < b'0' || *b > b'9' {
+            return false;
+        }
+    }
+    !bytes.is_empty()
+}
+
+// Whether a text is a numeral: digits, with a plus before them or not.
+fn is_numeral(text: &str) -> bool
+    ensures { λ r. ⌜ Decides r (Numeral 10 (afterPlus (now (text .entry)))) ⌝ }
+{
+    let bytes = text.as_bytes();
+    if bytes.len() > 0 && bytes[0] == b'+' {
+        all_digits(&bytes[1..])
+    } else {
+        all_digits(bytes)
+    }
+}
+
 // The number that a text writes. One that is too large for the machine counts as the largest, which is refused all the same.
 fn number_in(text: &str) -> Option<usize>
     ensures { λ r. ⌜ Numbered (now (text .entry)) r ⌝ }
 {
     match text.parse::<usize>() {
         Ok(n) => Some(n),
-        Err(e) => match e.kind() {
-            IntErrorKind::PosOverflow => Some(usize::MAX),
-            _ => None,
-        },
+        Err(_) => {
+            if is_numeral(text) {
+                Some(usize::MAX)
+            } else {
+                None
+            }
+        }
     }
 }
 
