@@ -3,7 +3,7 @@ use mathlib.Core.List.{List}
 use Prim.Native.Nat.{ℕ, _<_}
 use lib.ListN.{length, getD}
 use Rattle.std.proofs.shelf.Numerals.{Numerals, numerals-by-value, tells-by-index}
-use Rattle.std.specs.Reads.{Digits, value}
+use Rattle.std.specs.Reads.{value}
 use Rattle.std.specs.Text.{In}
 
 -- each byte is a decimal digit
