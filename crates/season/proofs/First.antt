@@ -1,13 +1,14 @@
 -- A loop that stops at the first place where a test holds: at each turn, what is found from here on is what is found from 0 on.
 use mathlib.Core.Path.{_≡_, refl, sym, _∙_}
 use mathlib.Core.Bool.{Bool, true, false}
-use mathlib.Core.Logic.{inl, inr}
+use mathlib.Core.Logic.{_≢_, inl, inr}
 use Prim.Native.Nat.{ℕ, zero, suc, _+_, _-_, _≤_, _<_}
 use native.Mathlib.Omega.{arith}
 use native.Mathlib.Numerals.{add-one}
-use Rattle.std.proofs.shelf.Tests.{lt-ltb, cases-bool, cases-eq}
-use Rattle.season.specs.Reading.{first, unless-at}
+use Rattle.std.proofs.shelf.Tests.{lt-ltb, both-ways, cases-bool, cases-eq}
+use Rattle.season.specs.Reading.{unless-at}
 use Rattle.season.specs.Refused.{Told, refused}
+use Rattle.season.specs.Rows.{first}
 
 -- where the first place is past the end, the test holds nowhere
 pub none-before : (p : ℕ → Bool) (k n : ℕ) → k + n ≤ first p k n → (j : ℕ) → k ≤ j → j < k + n → p j ≡ false
@@ -30,12 +31,25 @@ first-none p k (suc n) none =
     let rest = first-none p (suc k) n (λ j low high. none j (omega arith) (omega arith)) in
     rw (none k (omega arith) (omega arith)) (omega (arith, rest))
 
+-- where the test holds somewhere, it holds at the first place
+pub first-holds :
+    (p : ℕ → Bool) (k n j : ℕ) → k ≤ j → j < k + n → p j ≡ true → (first p k n < k + n) × (p (first p k n) ≡ true)
+first-holds p k zero j low high t = absurd (omega arith)
+first-holds p k (suc n) j low high t =
+    elim (cases-bool (p k)) [
+      | inl here ↦ rw here (omega arith, here)
+      | inr not-here ↦
+          let later : k ≢ j = λ e. both-ways (p k) not-here (rw e t) in
+          let on = first-holds p (suc k) n j (omega arith) (omega arith) t in
+          rw not-here (omega (arith, on .0), on .1)
+    ]
+
 -- none of the places before k of n was the first
 abbrev pub Passed : (ℕ → Bool) → ℕ → ℕ → Type 0
 Passed p n k = first p k (n - k) ≡ first p 0 n
 
 module _ (p : ℕ → Bool) (n : ℕ) where
-  first-found : (k : ℕ) → k < n → p k ≡ true → Passed p n k → first p 0 n ≡ k
+  pub first-found : (k : ℕ) → k < n → p k ≡ true → Passed p n k → first p 0 n ≡ k
   first-found k l t e =
       let m : n - k ≡ suc (n - (k + 1)) = omega arith in
       let here : first p k (n - k) ≡ k = rw m (rw t refl) in

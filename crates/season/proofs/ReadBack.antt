@@ -14,9 +14,10 @@ use Rattle.season.specs.declared.game.Game.{Game}
 use Rattle.season.specs.declared.table.Sizes.{Sizes}
 use Rattle.season.specs.Bytes.{number-at, game-at}
 use Rattle.season.specs.Encoding.{Within, Same, Read-back, points-bytes, match-bytes, encoded, match-of, table-in, sizes-of}
-use Rattle.season.specs.Reading.{first, outcome, checked, unless-at, unless-short, points-in, games-in, sizes-in}
+use Rattle.season.specs.Reading.{outcome, checked, unless-at, unless-short, points-in, games-in, sizes-in}
 use Rattle.season.specs.Reading.{unserved, cut, above, wrong-length, absent, against-itself}
 use Rattle.season.specs.Refused.{Told, given, refused, unless}
+use Rattle.season.specs.Rows.{first}
 use Rattle.season.specs.Table.{Match, Table}
 use Rattle.season.proofs.First.{first-none}
 use Rattle.season.proofs.Pairs.{length-pairs, pairs-even, pairs-odd}

@@ -10,9 +10,10 @@ use lib.ListN.{length}
 use Rattle.std.proofs.shelf.Tests.{ltb-false, leb-false, eqb-false, or-parts}
 use Rattle.season.specs.declared.table.Sizes.{Sizes}
 use Rattle.season.specs.Bytes.{number-at, game-at}
-use Rattle.season.specs.Reading.{first, unless-at, outcome, teams-in, points-in, games-in, sizes-in}
+use Rattle.season.specs.Reading.{unless-at, outcome, teams-in, points-in, games-in, sizes-in}
 use Rattle.season.specs.Reading.{unserved, row-short, points-short, cut, above, wrong-length, absent, against-itself}
 use Rattle.season.specs.Refused.{Told, given, unless}
+use Rattle.season.specs.Rows.{first}
 use Rattle.season.proofs.First.{none-before}
 
 -- the bytes of the games of a file

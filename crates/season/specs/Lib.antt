@@ -5,4 +5,5 @@ pub mod Plan
 pub mod Promise
 pub mod Reading
 pub mod Refused
+pub mod Rows
 pub mod Table

@@ -28,6 +28,11 @@ pub record Proper (n : ℕ) (s : Plan) : Type 0 where
   pub one-home : (r i : ℕ) → r < n - 1 → i < n → s .home r (s .against r i) ≡ not (s .home r i)
   pub meet : (i j : ℕ) → i < n → j < n → i ≢ j → (r : ℕ) × (r < n - 1) × (s .against r i ≡ j)
 
+-- two plans for n teams agree in every round and team
+pub record Agree (n : ℕ) (s t : Plan) : Type 0 where
+  pub against : (r i : ℕ) → r < n - 1 → i < n → s .against r i ≡ t .against r i
+  pub home : (r i : ℕ) → r < n - 1 → i < n → s .home r i ≡ t .home r i
+
 -- both true or both false
 unfoldable pub equal : Bool → Bool → Bool
 equal true b = b

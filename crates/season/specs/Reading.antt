@@ -1,20 +1,15 @@
 -- What is read of a table's file: its number of teams in one byte, two bytes of points for each team, the low one first,
 -- then host and guest of each game left.
 use mathlib.Core.Bool.{Bool, cond, _||_}
-use mathlib.Core.List.{List, map, _++_}
-use Prim.Native.Nat.{ℕ, zero, suc, min, _+_, _*_, _-_, _/_, _%_}
+use mathlib.Core.List.{List}
+use Prim.Native.Nat.{ℕ, min, _+_, _*_, _-_, _/_, _%_}
 use lib.Dec.{eqb, leb, ltb}
 use lib.ListN.{length, getD, drop}
-use Rattle.std.specs.Iters.{counting}
 use Rattle.season.specs.declared.game.Game.{Game}
 use Rattle.season.specs.declared.table.Sizes.{Sizes}
 use Rattle.season.specs.Bytes.{number-at, game-at}
 use Rattle.season.specs.Refused.{Told, given, refused, unless}
-
--- the first of the places from k on, of which there are n, where p holds, or the place after them
-abbrev pub first : (ℕ → Bool) → ℕ → ℕ → ℕ
-first p k zero = k
-first p k (suc n) = cond (p k) k (first p (suc k) n)
+use Rattle.season.specs.Rows.{first, written}
 
 -- refused at the first of n places where p holds, if there is one
 abbrev pub unless-at : {A : Type 0} → (ℕ → Bool) → ℕ → ℕ → Told A → Told A
@@ -88,10 +83,6 @@ checked file s row points =
 -- the answer of the reader
 abbrev pub outcome : List ℕ → ℕ → ℕ → Told Sizes
 outcome file row points = checked file (sizes-in file) row points
-
--- lent memory with f k written at each place k below n, and after those what stood there
-abbrev pub written : {X : Type 0} → (ℕ → X) → ℕ → List X → List X
-written f n old = map f (counting 0 n) ++ drop n old
 
 -- what lent memory holds afterwards: what was read, then what stood there; refused, what stood there
 abbrev pub points-after : Told Sizes → List ℕ → List ℕ → List ℕ

@@ -1,23 +1,34 @@
-// Says of a number of teams whether a plan can be made for it.
+// Prints the plan for a number of teams, with the fewest breaks there can be.
 ghost use mathlib.Core.Path.{_≡_};
 ghost use mathlib.Core.Bool.{true, false};
-ghost use Rattle.season.specs.Plan.{unplanned};
+ghost use Prim.Native.Nat.{_<_};
+ghost use Rattle.planner.specs.Circle.{plan-length, unless-unplanned};
+ghost use Rattle.season.specs.Refused.{given, isGiven};
 ghost use Rattle.season_plan.specs.Words.{Numbered};
 ghost use Rattle.std.specs.Orderings.{Decides};
 ghost use Rattle.std.specs.Reads.{Numeral, afterPlus};
 ghost use Rattle.std.specs.Results.{isOk};
-use season::plan::plan_teams;
+use planner::circle::write_plan;
+use season::game::game_in;
+use season::plan::round_in;
 use season::refusal::RefusalDisplay;
+use std::alloc::Global;
 use std::env;
 use std::io;
 
 const USAGE: &str = "\
 usage: season_plan TEAMS
 
-Says for how many teams and rounds a plan is made: an even number of teams from 2 to 64.
-Prints `refused 1 at 0` for any other number, and ends with status 1.
+Prints the season's plan with the fewest breaks there can be, for an even number of teams from 2 to 32, numbered from 0:
+a line for each round with its games, host first, and then the number of breaks. A break is two home games running, or two
+away. The return half repeats the rounds with home and away exchanged.
+Prints `refused 1 at 0` for an odd number of teams, 0, or more than 64, and `refused 10 at 0` for 34 to 64, for which it has
+no memory, and ends with status 1.
 
 example: season_plan 20";
+
+// The most teams that this program has memory for.
+const TEAMS: usize = 32;
 
 // What the words of the call ask for.
 #[derive(Drop)]
@@ -97,14 +108,40 @@ fn stop() -> io::Result<()>
     Err(io::Error::from(io::ErrorKind::InvalidInput))
 }
 
-// Prints how many rounds there are, or the refusal. It ends well only if a plan is made for so many teams.
-fn tell(rt: &LibcRuntime, n: usize) -> io::Result<()>
-    ensures { λ r. ⌜ (isOk r ≡ true → unplanned n ≡ false) ⌝ }
+// A round as a line of text, as in `round 0: 3-0 1-2`.
+fn round_line(heap: Global, r: usize, round: &[u8]) -> io::Result<String> {
+    let mut line = format!(heap, "round {r}:")?;
+    for k in 0..round.len() / 2 {
+        if let Some(game) = game_in(round, k) {
+            let host = game.host;
+            let guest = game.guest;
+            write!(line, " {host}-{guest}")?;
+        }
+    }
+    Ok(line)
+}
+
+fn print_rounds(rt: &LibcRuntime, n: usize, plan: &[u8]) -> io::Result<()>
+    requires { ⌜ 0 < n ⌝ }
 {
-    match plan_teams(n) {
-        Ok(teams) => {
-            let rounds = teams - 1;
-            println!(rt, "teams {teams}, rounds {rounds}")
+    for r in 0..n - 1 {
+        if let Some(round) = round_in(plan, n, r) {
+            let line = round_line(rt.alloc(), r, round)?;
+            println!(rt, "{line}")?;
+        }
+    }
+    Ok(())
+}
+
+// Prints the plan, or the refusal. It ends well only if a plan is made for so many teams, and there is memory for it.
+fn tell(rt: &LibcRuntime, n: usize) -> io::Result<()>
+    ensures { λ r. ⌜ (isOk r ≡ true → isGiven (unless-unplanned n (plan-length 32) (given n)) ≡ true) ⌝ }
+{
+    let mut plan = [0u8; TEAMS * (TEAMS - 1)];
+    match write_plan(n, &mut plan) {
+        Ok(breaks) => {
+            print_rounds(rt, n, &plan)?;
+            println!(rt, "breaks {breaks}")
         }
         Err(refusal) => {
             println!(rt, "{refusal}")?;

@@ -6,7 +6,7 @@ use Rattle.std.proofs.shelf.Lists.{take-rest}
 use Rattle.season.proofs.Written.{written-more}
 use Rattle.season.proofs.table.write_games.Needs as need
 use Rattle.season.specs.Bytes.{game-at}
-use Rattle.season.specs.Reading.{written}
+use Rattle.season.specs.Rows.{written}
 
 pub loop-k-again : need.loop-k-again
 loop-k-again c =

@@ -1,0 +1,9 @@
+-- Lemmas of the planner.
+pub mod Begins
+pub mod Best
+pub mod Bytes
+pub mod CircleBreaks
+pub mod Circles
+pub mod Games
+pub mod Needed
+pub mod Rounds

@@ -1,0 +1,5 @@
+use Rattle.planner.proofs.Bytes.{bytes-agree}
+use Rattle.planner.proofs.laws.bytes_agree.Needs as need
+
+pub returns : need.returns
+returns c = bytes-agree

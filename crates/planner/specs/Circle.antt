@@ -1,0 +1,63 @@
+-- The plan by circles as bytes, and what the planner answers.
+use mathlib.Core.Bool.{Bool, true, false}
+use mathlib.Core.List.{List, map}
+use Prim.Native.Nat.{ℕ, _+_, _*_, _-_, _/_, _%_, _≤_, _<_}
+use mathlib.Core.Path.{_≡_}
+use lib.Dec.{eqb, ltb}
+use Rattle.std.specs.Iters.{counting}
+use Rattle.season.specs.declared.game.Game.{Game}
+use Rattle.season.specs.Bytes.{plan-of}
+use Rattle.season.specs.Plan.{Agree, pick, rest, circle, unplanned}
+use Rattle.season.specs.Refused.{Told, given, refused, unless}
+use Rattle.season.specs.Rows.{written}
+
+-- the game of two teams, the first at home if the test is true, else the second
+abbrev pub meeting : Bool → ℕ → ℕ → Game
+meeting true a b = record { host = a; guest = b }
+meeting false a b = record { host = b; guest = a }
+
+-- game k of round r: with m = n - 1, game 0 is that of m and r, m at home if r is even; in the others r + k plays r - k
+-- modulo m, the first at home if k is odd
+abbrev pub game-of : ℕ → ℕ → ℕ → Game
+game-of n r k =
+    pick (eqb k 0)
+    (meeting (eqb (r % 2) 0) (n - 1) r)
+    (meeting (eqb (k % 2) 1) (rest (n - 1) (r + k)) (rest (n - 1) (r + (n - 1) - k)))
+
+-- byte p of round r: the host of a game at an even place, the guest at an odd one
+unfoldable pub round-byte : ℕ → ℕ → ℕ → ℕ
+round-byte n r p = pick (eqb (p % 2) 0) (game-of n r (p / 2) .host) (game-of n r (p / 2) .guest)
+
+-- byte p of the plan, n bytes a round
+unfoldable pub plan-byte : ℕ → ℕ → ℕ
+plan-byte n p = round-byte n (p / n) (p % n)
+
+-- how many bytes the plan for n teams has
+abbrev pub plan-length : ℕ → ℕ
+plan-length n = n * (n - 1)
+
+-- the bytes of the plan for n teams
+abbrev pub plan-bytes : ℕ → List ℕ
+plan-bytes n = map (plan-byte n) (counting 0 (plan-length n))
+
+-- the bytes say what the definition says: the plan read back from them agrees with the plan by circles, whatever follows them
+unfoldable pub Bytes-agree : Type 0
+Bytes-agree =
+    (n : ℕ) (old : List ℕ) → 0 < n → n % 2 ≡ 0 →
+    Agree n (plan-of n (written (plan-byte n) (plan-length n) old)) (circle n)
+
+-- the checks of a number of teams, and of the number of bytes that are there for its plan
+abbrev pub unless-unplanned : {A : Type 0} → ℕ → ℕ → Told A → Told A
+unless-unplanned n bytes after = unless (unplanned n) 1 0 (unless (ltb bytes (plan-length n)) 10 0 after)
+
+-- n teams for which a plan is made, and so many bytes that they hold it
+pub record Fitting (n bytes : ℕ) : Type 0 where
+  pub some-teams : 0 < n
+  pub two-sides : n % 2 ≡ 0
+  pub few-teams : n ≤ 64
+  pub room : plan-length n ≤ bytes
+
+-- what lent memory holds afterwards: the plan, then what stood there; refused, what stood there
+abbrev pub plan-after : {A : Type 0} → Told A → ℕ → List ℕ → List ℕ
+plan-after (given a) n old = written (plan-byte n) (plan-length n) old
+plan-after (refused number place) n old = old

@@ -1,0 +1,3 @@
+-- Definitions that the planner's contracts cite.
+pub mod Circle
+pub mod Worked

@@ -1,0 +1,4 @@
+// The planner: the plan by circles, the counting of breaks, and theorems about every plan.
+pub mod breaks;
+pub mod circle;
+pub mod laws;
