@@ -2,28 +2,19 @@
 use mathlib.Core.Path.{_≡_, refl}
 use mathlib.Core.List.{List}
 use Prim.Native.Nat.{ℕ, _+_, _*_, _-_, _/_, _%_, _≤_, _<_}
-use native.Mathlib.Nat.{add-mul, mul-comm, mul-le-mul-right}
+use native.Mathlib.Nat.{add-mul, mul-le-mul-right}
 use native.Mathlib.Omega.{arith}
 use lib.Arith.{digits-div, digits-mod}
-use lib.ListN.{take, drop}
-use Rattle.planner.specs.Circle.{Fitting, game-of, round-byte, plan-byte, plan-length}
-use Rattle.season.specs.Bytes.{plan-of, home-in}
+use Rattle.season.proofs.Written.{written-part}
+use Rattle.season.specs.Rows.{written}
+use Rattle.planner.specs.Circle.{Fitting, game-of, round-byte, plan-byte, plan-length, with-round}
 
 -- rounds start and end within the plan's bytes
 pub round-inside : (n r : ℕ) → r < n → r * n ≤ plan-length n
-round-inside n r l = let h : r ≤ n - 1 = omega arith in omega (arith, mul-le-mul-right n h, mul-comm n (n - 1))
+round-inside n r l = let h : r ≤ n - 1 = omega arith in mul-le-mul-right n h
 
 pub round-within : {n bytes : ℕ} → Fitting n bytes → (r : ℕ) → r < n → r * n ≤ bytes
 round-within {n} fitting r l = omega (arith, round-inside n r l, fitting .room)
-
--- who is at home in the part of the bytes that is round r
-pub home-of-part :
-    (n r e : ℕ) (plan : List ℕ) (i : ℕ) → e ≡ r + 1 →
-    home-in (take (e * n - r * n) (drop (r * n) plan)) i ≡ plan-of n plan .home r i
-unfolding plan-of
-home-of-part n r e plan i h =
-    let l : e * n - r * n ≡ n = rw h (omega (arith, add-mul r 1 n)) in
-    rw l refl
 
 -- the bytes of game k
 module _ (n r k : ℕ) where
@@ -45,3 +36,12 @@ module _ (n r k : ℕ) where
 pub byte-in-round : (n r p : ℕ) → p < n → round-byte n r p ≡ plan-byte n (r * n + p)
 unfolding plan-byte
 byte-in-round n r p l = rw (digits-div r l, digits-mod r l) refl
+
+pub next-round : (n r : ℕ) → (r + 1) * n ≡ r * n + n
+next-round n r = omega (arith, add-mul r 1 n)
+
+pub written-round :
+    (n r : ℕ) (old bytes : List ℕ) → bytes ≡ written (plan-byte n) (r * n) old →
+    with-round n r bytes ≡ written (plan-byte n) ((r + 1) * n) old
+written-round n r old bytes e =
+    rw (next-round n r) (written-part (plan-byte n) (round-byte n r) (r * n) n old bytes (byte-in-round n r) e)

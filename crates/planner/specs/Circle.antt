@@ -1,15 +1,15 @@
 -- The plan by circles as bytes, and what the planner answers.
-use mathlib.Core.Bool.{Bool, true, false}
-use mathlib.Core.List.{List, map}
-use Prim.Native.Nat.{ℕ, _+_, _*_, _-_, _/_, _%_, _≤_, _<_}
 use mathlib.Core.Path.{_≡_}
+use mathlib.Core.Bool.{Bool, true, false}
+use mathlib.Core.List.{List, map, _++_}
+use Prim.Native.Nat.{ℕ, _+_, _*_, _-_, _/_, _%_, _≤_, _<_}
 use lib.Dec.{eqb, ltb}
+use lib.ListN.{take, drop}
 use Rattle.std.specs.Iters.{counting}
 use Rattle.season.specs.declared.game.Game.{Game}
 use Rattle.season.specs.Bytes.{plan-of}
 use Rattle.season.specs.Plan.{Agree, pick, rest, circle, unplanned}
 use Rattle.season.specs.Refused.{Told, given, refused, unless}
-use Rattle.season.specs.Rows.{written}
 
 -- the game of two teams, the first at home if the test is true, else the second
 abbrev pub meeting : Bool → ℕ → ℕ → Game
@@ -28,27 +28,33 @@ game-of n r k =
 unfoldable pub round-byte : ℕ → ℕ → ℕ → ℕ
 round-byte n r p = pick (eqb (p % 2) 0) (game-of n r (p / 2) .host) (game-of n r (p / 2) .guest)
 
+-- the bytes of round r
+abbrev pub round-bytes : ℕ → ℕ → List ℕ
+round-bytes n r = map (round-byte n r) (counting 0 n)
+
 -- byte p of the plan, n bytes a round
 unfoldable pub plan-byte : ℕ → ℕ → ℕ
 plan-byte n p = round-byte n (p / n) (p % n)
 
--- how many bytes the plan for n teams has
+-- how many bytes the plan for n teams has: n - 1 rounds of n bytes
 abbrev pub plan-length : ℕ → ℕ
-plan-length n = n * (n - 1)
+plan-length n = (n - 1) * n
 
 -- the bytes of the plan for n teams
 abbrev pub plan-bytes : ℕ → List ℕ
 plan-bytes n = map (plan-byte n) (counting 0 (plan-length n))
 
+-- memory with the plan written at its front, and after that what stood there
+abbrev pub with-plan : ℕ → List ℕ → List ℕ
+with-plan n old = plan-bytes n ++ drop (plan-length n) old
+
+-- memory with round r of the plan written over its part of it
+abbrev pub with-round : ℕ → ℕ → List ℕ → List ℕ
+with-round n r old = take (r * n) old ++ (round-bytes n r ++ drop (r * n + n) old)
+
 -- the bytes say what the definition says: the plan read back from them agrees with the plan by circles, whatever follows them
 unfoldable pub Bytes-agree : Type 0
-Bytes-agree =
-    (n : ℕ) (old : List ℕ) → 0 < n → n % 2 ≡ 0 →
-    Agree n (plan-of n (written (plan-byte n) (plan-length n) old)) (circle n)
-
--- the checks of a number of teams, and of the number of bytes that are there for its plan
-abbrev pub unless-unplanned : {A : Type 0} → ℕ → ℕ → Told A → Told A
-unless-unplanned n bytes after = unless (unplanned n) 1 0 (unless (ltb bytes (plan-length n)) 10 0 after)
+Bytes-agree = (n : ℕ) (old : List ℕ) → 0 < n → n % 2 ≡ 0 → Agree n (plan-of n (with-plan n old)) (circle n)
 
 -- n teams for which a plan is made, and so many bytes that they hold it
 pub record Fitting (n bytes : ℕ) : Type 0 where
@@ -57,7 +63,11 @@ pub record Fitting (n bytes : ℕ) : Type 0 where
   pub few-teams : n ≤ 64
   pub room : plan-length n ≤ bytes
 
+-- the checks in their order: of a number of teams, and of the number of bytes that are there for its plan
+abbrev pub unless-unfit : {A : Type 0} → ℕ → ℕ → Told A → Told A
+unless-unfit n bytes after = unless (unplanned n) 1 0 (unless (ltb bytes (plan-length n)) 10 0 after)
+
 -- what lent memory holds afterwards: the plan, then what stood there; refused, what stood there
 abbrev pub plan-after : {A : Type 0} → Told A → ℕ → List ℕ → List ℕ
-plan-after (given a) n old = written (plan-byte n) (plan-length n) old
+plan-after (given a) n old = with-plan n old
 plan-after (refused number place) n old = old

@@ -1,30 +1,14 @@
 // The breaks of a plan: two home games running, or two away.
 ghost use mathlib.Core.Path.{_≡_};
-ghost use Prim.Native.Nat.{_≤_};
+ghost use Prim.Native.Nat.{_-_, _≤_};
 ghost use lib.ListN.{length};
-ghost use Rattle.planner.specs.Circle.{Fitting, unless-unplanned};
+ghost use Rattle.planner.specs.Circle.{Fitting, unless-unfit};
 ghost use Rattle.season.specs.Bytes.{home-in, place-in, plan-of};
-ghost use Rattle.season.specs.Plan.{breaks, breaks-of, equal};
+ghost use Rattle.season.specs.Plan.{break-at, breaks, equal, span};
 ghost use Rattle.season.specs.Refused.{told, given};
-ghost use Rattle.std.specs.Vec.{made};
-use season::plan::plan_teams;
-use season::refusal::Lent;
+use crate::bytes::check_plan;
+use crate::bytes::round_of;
 use season::refusal::Refusal;
-
-// The number of teams, if a plan is made for so many and `bytes` bytes hold it.
-pub(crate) fn check_plan(n: usize, bytes: usize) -> Result<usize, Refusal>
-    ensures answer { λ r. ⌜ told r ≡ unless-unplanned n bytes (given n) ⌝ }
-    ensures fitting { λ r. ⌜ made r (λ teams. (teams ≡ n) × Fitting n bytes) ⌝ }
-{
-    let checked = plan_teams(n);
-    let Ok(teams) = checked else {
-        return checked;
-    };
-    if bytes < teams * (teams - 1) {
-        return Err(Refusal::MemoryShort(Lent::Row));
-    }
-    Ok(teams)
-}
 
 // Where a team stands in a round: the first place that has its byte, or the round's length where none has.
 fn place_in(round: &[u8], team: usize) -> usize
@@ -55,14 +39,12 @@ fn has_break(before: &[u8], round: &[u8], team: usize) -> bool
 // The breaks of a team, over all rounds of a plan.
 fn breaks_of(n: usize, plan: &[u8], team: usize) -> usize
     requires { ⌜ Fitting n (length (now plan)) ⌝ }
-    ensures counted { λ r. ⌜ r ≡ breaks-of n (plan-of n (now (plan .entry))) team ⌝ }
+    ensures counted { λ r. ⌜ r ≡ span (break-at (plan-of n (now (plan .entry))) team) (n - 2) ⌝ }
     ensures few { λ r. ⌜ r ≤ n ⌝ }
 {
     let mut breaks = 0;
     for r in 0..n - 2 {
-        let before = &plan[r * n..(r + 1) * n];
-        let round = &plan[(r + 1) * n..(r + 2) * n];
-        if has_break(before, round, team) {
+        if has_break(round_of(n, plan, r), round_of(n, plan, r + 1), team) {
             breaks += 1;
         }
     }
@@ -83,7 +65,7 @@ pub(crate) fn breaks_in(n: usize, plan: &[u8]) -> usize
 
 // The breaks of the plan for `n` teams in a row of bytes, whatever the bytes are; what follows the plan does not count.
 pub fn count_breaks(n: usize, plan: &[u8]) -> Result<usize, Refusal>
-    ensures { λ r. ⌜ told r ≡ unless-unplanned n (length (now (plan .entry))) (given (breaks n (plan-of n (now (plan .entry))))) ⌝ }
+    ensures { λ r. ⌜ told r ≡ unless-unfit n (length (now (plan .entry))) (given (breaks n (plan-of n (now (plan .entry))))) ⌝ }
 {
     let checked = check_plan(n, plan.len());
     let Ok(teams) = checked else {

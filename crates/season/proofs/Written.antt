@@ -5,8 +5,7 @@ use Prim.Native.Nat.{ℕ, zero, suc, _+_, _-_, _<_}
 use native.Mathlib.Nat.{add-zero}
 use native.Mathlib.Numerals.{add-one}
 use native.Mathlib.Omega.{arith}
-use lib.ListN.{length, set, drop}
-use borrow.Rule.Slice.PartMut.{putMid}
+use lib.ListN.{length, set, take, drop}
 use Rattle.std.specs.Iters.{counting}
 use Rattle.std.proofs.shelf.Counted.{length-map-counting, map-counting-more}
 use Rattle.std.proofs.shelf.Lists.{append-nil, set-append-right, drop-more, take-at, drop-at, drop-drop}
@@ -38,9 +37,9 @@ module _ {X : Type 0} (f g : ℕ → X) (a : ℕ) where
       ∙ rw (all, before, append-assoc, ← same n (omega arith)) (ap (λ l. map f (counting 0 a) ++ l) (sym mine))
 
   pub written-part :
-      (n : ℕ) (old xs part : List X) → xs ≡ written f a old → part ≡ map g (counting 0 n) →
-      ((k : ℕ) → k < n → g k ≡ f (a + k)) → putMid a n xs part ≡ written f (a + n) old
-  written-part n old xs part e h same =
+      (n : ℕ) (old xs : List X) → ((k : ℕ) → k < n → g k ≡ f (a + k)) → xs ≡ written f a old →
+      take a xs ++ (map g (counting 0 n) ++ drop (a + n) xs) ≡ written f (a + n) old
+  written-part n old xs same e =
       let front = take-at (map f (counting 0 a)) (drop a old) a (length-map-counting f 0 a) in
       let after = drop-at (map f (counting 0 a)) (drop a old) a (length-map-counting f 0 a) in
-      rw (e, h, front, after, drop-drop, map-counting-part n same, append-assoc) refl
+      rw (e, front, map-counting-part n same, append-assoc, ← drop-drop n a (written f a old), after, drop-drop) refl

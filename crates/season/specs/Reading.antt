@@ -1,6 +1,6 @@
 -- What is read of a table's file: its number of teams in one byte, two bytes of points for each team, the low one first,
 -- then host and guest of each game left.
-use mathlib.Core.Bool.{Bool, cond, _||_}
+use mathlib.Core.Bool.{Bool, _||_}
 use mathlib.Core.List.{List}
 use Prim.Native.Nat.{ℕ, min, _+_, _*_, _-_, _/_, _%_}
 use lib.Dec.{eqb, leb, ltb}

@@ -2,7 +2,7 @@
 ghost use mathlib.Core.Path.{_≡_};
 ghost use mathlib.Core.Bool.{true, false};
 ghost use Prim.Native.Nat.{_<_};
-ghost use Rattle.planner.specs.Circle.{plan-length, unless-unplanned};
+ghost use Rattle.planner.specs.Circle.{plan-length, unless-unfit};
 ghost use Rattle.season.specs.Refused.{given, isGiven};
 ghost use Rattle.season_plan.specs.Words.{Numbered};
 ghost use Rattle.std.specs.Orderings.{Decides};
@@ -135,7 +135,7 @@ fn print_rounds(rt: &LibcRuntime, n: usize, plan: &[u8]) -> io::Result<()>
 
 // Prints the plan, or the refusal. It ends well only if a plan is made for so many teams, and there is memory for it.
 fn tell(rt: &LibcRuntime, n: usize) -> io::Result<()>
-    ensures { λ r. ⌜ (isOk r ≡ true → isGiven (unless-unplanned n (plan-length 32) (given n)) ≡ true) ⌝ }
+    ensures { λ r. ⌜ (isOk r ≡ true → isGiven (unless-unfit n (plan-length 32) (given n)) ≡ true) ⌝ }
 {
     let mut plan = [0u8; TEAMS * (TEAMS - 1)];
     match write_plan(n, &mut plan) {

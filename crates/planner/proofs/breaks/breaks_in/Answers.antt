@@ -1,4 +1,4 @@
-use mathlib.Core.Path.{_≡_, refl, sym, ap, _∙_}
+use mathlib.Core.Path.{_≡_, refl}
 use native.Mathlib.Omega.{arith}
 use Rattle.planner.proofs.breaks.breaks_in.Needs as need
 use Rattle.season.proofs.Spans.{span-more}
@@ -10,6 +10,7 @@ unfolding span
 loop-team-holds c = (refl, omega arith)
 
 pub loop-team-again : need.loop-team-again
+unfolding breaks-of
 loop-team-again c =
     let more = span-more (breaks-of (c .args .n) (plan-of (c .args .n) (c .args .plan .now))) (c .loop-team .team) in
     (omega arith, omega arith)

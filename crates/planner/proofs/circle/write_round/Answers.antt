@@ -1,32 +1,16 @@
-use mathlib.Core.Path.{_≡_, refl, sym, ap, _∙_}
-use mathlib.Core.List.{map}
-use Prim.Native.Nat.{_+_, _*_, _<_}
+use mathlib.Core.Path.{_≡_, refl}
+use Prim.Native.Nat.{_+_, _*_, _-_}
 use native.Mathlib.Omega.{arith}
-use lib.ListN.{length, drop}
-use Rattle.std.specs.Iters.{counting}
-use Rattle.std.proofs.shelf.Lists.{append-nil, drop-all}
-use Rattle.planner.proofs.Rounds.{byte-of-host, byte-of-guest}
+use Rattle.std.proofs.shelf.Lists.{drop-drop}
+use Rattle.planner.proofs.Rounds.{next-round, round-within}
 use Rattle.planner.proofs.circle.write_round.Needs as need
-use Rattle.planner.specs.Circle.{round-byte}
-use Rattle.season.proofs.Written.{written-more}
-use Rattle.season.specs.declared.game.Game.{Game}
-use Rattle.season.specs.Rows.{written}
 
-pub loop-k-again : need.loop-k-again
-loop-k-again c =
-    let n = c .args .n in
-    let r = c .args .r in
-    let k = c .loop-k .k in
-    let old = c .args .round .now in
-    let host = ap (λ (g : Game). g .host) (c .game-of-game .ensures) ∙ byte-of-host n r k in
-    let guest = ap (λ (g : Game). g .guest) (c .game-of-game .ensures) ∙ byte-of-guest n r k in
-    let first = written-more (round-byte n r) old _ (2 * k) _ (omega arith) (c .loop-k .inv) host in
-    let second = written-more (round-byte n r) old _ (2 * k + 1) _ (omega arith) first guest in
-    let next : 2 * (k + 1) ≡ 2 * k + 1 + 1 = omega arith in
-    second ∙ ap (λ p. written (round-byte n r) p old) (sym next)
+pub part-write-games-end : need.part-write-games-end
+part-write-games-end c = round-within (c .pre .0) (c .args .r + 1) (omega arith)
 
 pub returns : need.returns
 returns c =
-    let all : 2 * c .loop-k .k ≡ c .args .n = omega arith in
-    let none : drop (c .args .n) (c .args .round .now) ≡ _ = drop-all (c .args .n) (c .args .round .now) (omega arith) in
-    (rw all at (c .loop-k .inv)) ∙ rw none (append-nil _)
+    let n = c .args .n in
+    let r = c .args .r in
+    let part : (r + 1) * n - r * n ≡ n = omega (arith, next-round n r) in
+    rw (part, c .write-games .ensures, drop-drop) refl

@@ -1,4 +1,4 @@
-use Rattle.planner.proofs.Bytes.{bytes-agree}
+use Rattle.planner.proofs.ReadBack.{bytes-agree}
 use Rattle.planner.proofs.laws.bytes_agree.Needs as need
 
 pub returns : need.returns

@@ -1,37 +1,33 @@
 -- The plan read back from the planner's bytes agrees with the plan by circles.
-use mathlib.Core.Path.{_≡_, refl, sym, _∙_, ap, subst}
-use mathlib.Core.Bool.{Bool, true, false, not}
+use mathlib.Core.Path.{_≡_, sym, _∙_, ap, subst}
 use mathlib.Core.Logic.{inl, inr}
-use mathlib.Core.List.{List, map}
+use mathlib.Core.List.{List}
 use Prim.Native.Nat.{ℕ, _+_, _*_, _-_, _/_, _%_, _≤_, _<_}
-use native.Mathlib.Nat.{add-mul}
 use native.Mathlib.Omega.{arith}
 use lib.Dec.{eqb}
-use lib.ListN.{length, getD, take, drop}
-use Rattle.std.specs.Iters.{counting}
+use lib.ListN.{length, getD, drop}
 use Rattle.std.proofs.shelf.Counted.{length-map-counting, getD-map-counting, fill-by-all}
 use Rattle.std.proofs.shelf.Lists.{length-append, length-drop, length-take-le, getD-append-left, getD-take, getD-drop}
 use Rattle.std.proofs.shelf.Tests.{cases-eq, eq-eqb, eqb-true}
 use Rattle.std.proofs.shelf.Ways.{tells}
 use Rattle.season.proofs.First.{first-holds}
 use Rattle.season.specs.Bytes.{round-at, place-in, home-in, beside, plan-of}
-use Rattle.season.specs.Plan.{Agree, circle}
-use Rattle.season.specs.Rows.{first, written}
-use Rattle.planner.proofs.Circles.{circle-proper}
-use Rattle.planner.proofs.Games.{Played, played, every-team}
-use Rattle.planner.proofs.Rounds.{byte-of-host, byte-of-guest, byte-in-round, round-inside}
-use Rattle.planner.specs.Circle.{Bytes-agree, game-of, plan-byte, plan-length, round-byte}
+use Rattle.season.specs.Plan.{circle}
+use Rattle.season.specs.Rows.{first}
+use Rattle.planner.proofs.Games.{played, every-team}
+use Rattle.planner.proofs.Rounds.{byte-of-host, byte-of-guest, byte-in-round, next-round, round-inside}
+use Rattle.planner.specs.Circle.{Bytes-agree, plan-byte, plan-bytes, plan-length, round-byte, round-bytes, with-plan}
 
 module _ (n : ℕ) (old : List ℕ) where
   abbrev bytes : List ℕ
-  bytes = written (plan-byte n) (plan-length n) old
+  bytes = with-plan n old
 
-  round-read : (r : ℕ) → r < n - 1 → round-at bytes n r ≡ map (round-byte n r) (counting 0 n)
+  round-read : (r : ℕ) → r < n - 1 → round-at bytes n r ≡ round-bytes n r
   round-read r l =
-      let plan = map (plan-byte n) (counting 0 (plan-length n)) in
+      let plan = plan-bytes n in
       let long : length plan ≡ plan-length n = length-map-counting (plan-byte n) 0 (plan-length n) in
       let all = length-append plan (drop (plan-length n) old) in
-      let end : r * n + n ≤ plan-length n = omega (arith, round-inside n (r + 1) (omega arith), add-mul r 1 n) in
+      let end : r * n + n ≤ plan-length n = omega (arith, round-inside n (r + 1) (omega arith), next-round n r) in
       let part = length-take-le n (drop (r * n) bytes) (omega (arith, length-drop (r * n) bytes)) in
       fill-by-all (round-byte n r) (round-at bytes n r) n 0 part (λ p lp.
       getD-take n (drop (r * n) bytes) p 0 lp
@@ -69,7 +65,7 @@ module _ (n : ℕ) (even : n % 2 ≡ 0) (r : ℕ) (lr : r < n - 1) where
       ]
 
   abbrev row : List ℕ
-  row = map (round-byte n r) (counting 0 n)
+  row = round-bytes n r
 
   byte-at : (p : ℕ) → p < n → getD row p 0 ≡ round-byte n r p
   byte-at p l = getD-map-counting (round-byte n r) 0 n p p 0 l (omega arith)

@@ -1,6 +1,6 @@
 use mathlib.Core.Path.{_≡_}
 use Prim.Native.Nat.{_*_}
-use Rattle.planner.proofs.circle.write_round.Given as given
+use Rattle.planner.proofs.circle.write_games.Given as given
 use Rattle.planner.specs.Circle.{round-byte}
 use Rattle.season.specs.Rows.{written}
 
