@@ -2,6 +2,8 @@
 #[cfg(test)]
 mod files;
 #[cfg(test)]
+mod planning;
+#[cfg(test)]
 mod plans;
 #[cfg(test)]
 mod refusals;
