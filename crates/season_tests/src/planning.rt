@@ -1,4 +1,5 @@
 // The planner: worked plans, every number of teams, what is refused, and wrong ways of doing it.
+use crate::plans::FOUR;
 use planner::breaks::count_breaks;
 use planner::circle::write_plan;
 use season::game::game_in;
@@ -10,70 +11,6 @@ use season::refusal::Refusal;
 use season::refusal::RefusalDebug;
 use season::refusal::RefusalPartialEq;
 use std::test::*;
-
-// The season of 6 teams: the plan, and the return half with home and away exchanged.
-const SIX: [u8; 60] = [
-    5,
-    0,
-    1,
-    4,
-    3,
-    2,
-    1,
-    5,
-    2,
-    0,
-    4,
-    3,
-    5,
-    2,
-    3,
-    1,
-    0,
-    4,
-    3,
-    5,
-    4,
-    2,
-    1,
-    0,
-    5,
-    4,
-    0,
-    3,
-    2,
-    1,
-    0,
-    5,
-    4,
-    1,
-    2,
-    3,
-    5,
-    1,
-    0,
-    2,
-    3,
-    4,
-    2,
-    5,
-    1,
-    3,
-    4,
-    0,
-    5,
-    3,
-    2,
-    4,
-    0,
-    1,
-    4,
-    5,
-    3,
-    0,
-    1,
-    2,
-];
 
 // Whether a team is at home in a round, or `None` if it has not just one game there.
 fn home(plan: &[u8], n: usize, r: usize, team: usize) -> Option<bool> {
@@ -132,6 +69,15 @@ fn breaks_over(plan: &[u8], n: usize, rounds: usize) -> usize {
     breaks
 }
 
+// The same games with home and away exchanged.
+fn write_return(plan: &[u8], half: &mut [u8]) {
+    for (k, team) in plan.iter().enumerate() {
+        if let Some(place) = half.get_mut(k ^ 1) {
+            *place = *team;
+        }
+    }
+}
+
 fn check_proper(plan: &[u8], n: usize) -> Result<(), Fail> {
     for a in 0..n {
         for r in 1..n {
@@ -152,10 +98,14 @@ fn the_worked_plans_are_written() -> Result<(), Fail> {
     check_eq(two, [1, 0])?;
     let mut four = [9u8; 12];
     check_eq(write_plan(4, &mut four), Ok(2))?;
-    check_eq(four, [3, 0, 1, 2, 1, 3, 2, 0, 3, 2, 0, 1])?;
+    check_eq(four, FOUR)?;
     let mut six = [9u8; 30];
     check_eq(write_plan(6, &mut six), Ok(4))?;
-    check_eq(&six[0..30], &SIX[0..30])
+    check_eq(&six[0..6], &[5u8, 0, 1, 4, 3, 2][0..])?;
+    check_eq(&six[6..12], &[1u8, 5, 2, 0, 4, 3][0..])?;
+    check_eq(&six[12..18], &[5u8, 2, 3, 1, 0, 4][0..])?;
+    check_eq(&six[18..24], &[3u8, 5, 4, 2, 1, 0][0..])?;
+    check_eq(&six[24..30], &[5u8, 4, 0, 3, 2, 1][0..])
 }
 
 #[test]
@@ -225,8 +175,11 @@ fn breaks_of_bytes_that_are_no_plan_are_counted() -> Result<(), Fail> {
 
 #[test]
 fn breaks_are_not_counted_over_the_return_half_too() -> Result<(), Fail> {
-    check_eq(breaks_over(&SIX, 6, 10), 12)?;
-    check_eq(count_breaks(6, &SIX), Ok(4))
+    let mut season = [0u8; 24];
+    season[0..12].copy_from_slice(&FOUR);
+    write_return(&FOUR, &mut season[12..24]);
+    check_eq(breaks_over(&season, 4, 6), 6)?;
+    check_eq(count_breaks(4, &season), Ok(2))
 }
 
 // Teams 0 and 1 are at home throughout, so they never meet, and there are more breaks than a proper plan needs.

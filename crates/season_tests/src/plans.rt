@@ -11,7 +11,7 @@ use season::refusal::RefusalPartialEq;
 use std::test::*;
 
 // The plan for 4 teams: 3-0 1-2, 1-3 2-0, 3-2 0-1.
-const FOUR: [u8; 12] = [3, 0, 1, 2, 1, 3, 2, 0, 3, 2, 0, 1];
+pub const FOUR: [u8; 12] = [3, 0, 1, 2, 1, 3, 2, 0, 3, 2, 0, 1];
 
 #[test]
 fn plans_are_for_even_numbers_from_2_to_64() -> Result<(), Fail> {
