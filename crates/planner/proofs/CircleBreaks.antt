@@ -9,7 +9,7 @@ use Rattle.season.proofs.Spans.{span-same, span-point, span-below}
 use Rattle.planner.proofs.Circles.{home-is}
 
 module _ (n : ℕ) (even : n % 2 ≡ 0) where
-  break-is : (i r : ℕ) → i < n → r < n - 2 → break-at (circle n) i r ≡ pick (eqb r (i - i % 2)) 1 0
+  pub break-is : (i r : ℕ) → i < n → r < n - 2 → break-at (circle n) i r ≡ pick (eqb r (i - i % 2)) 1 0
   unfolding equal
   break-is i r li lr =
       let here = home-is n even r i (omega arith) li in

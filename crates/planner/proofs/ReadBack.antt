@@ -16,7 +16,8 @@ use Rattle.season.specs.Plan.{circle}
 use Rattle.season.specs.Rows.{first}
 use Rattle.planner.proofs.Games.{played, every-team}
 use Rattle.planner.proofs.Rounds.{byte-of-host, byte-of-guest, byte-in-round, next-round, round-inside}
-use Rattle.planner.specs.Circle.{Bytes-agree, plan-byte, plan-bytes, plan-length, round-byte, round-bytes, with-plan}
+use Rattle.planner.specs.Circle.{plan-byte, plan-bytes, plan-length, round-byte, round-bytes, with-plan}
+use Rattle.planner.specs.Theorems.{Bytes-agree}
 
 module _ (n : ℕ) (old : List ℕ) where
   abbrev bytes : List ℕ

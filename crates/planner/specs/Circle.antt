@@ -7,8 +7,7 @@ use lib.Dec.{eqb, ltb}
 use lib.ListN.{take, drop}
 use Rattle.std.specs.Iters.{counting}
 use Rattle.season.specs.declared.game.Game.{Game}
-use Rattle.season.specs.Bytes.{plan-of}
-use Rattle.season.specs.Plan.{Agree, pick, rest, circle, unplanned}
+use Rattle.season.specs.Plan.{pick, rest, unplanned}
 use Rattle.season.specs.Refused.{Told, given, refused, unless}
 
 -- the game of two teams, the first at home if the test is true, else the second
@@ -51,10 +50,6 @@ with-plan n old = plan-bytes n ++ drop (plan-length n) old
 -- memory with round r of the plan written over its part of it
 abbrev pub with-round : ℕ → ℕ → List ℕ → List ℕ
 with-round n r old = take (r * n) old ++ (round-bytes n r ++ drop (r * n + n) old)
-
--- the bytes say what the definition says: the plan read back from them agrees with the plan by circles, whatever follows them
-unfoldable pub Bytes-agree : Type 0
-Bytes-agree = (n : ℕ) (old : List ℕ) → 0 < n → n % 2 ≡ 0 → Agree n (plan-of n (with-plan n old)) (circle n)
 
 -- n teams for which a plan is made, and so many bytes that they hold it
 pub record Fitting (n bytes : ℕ) : Type 0 where

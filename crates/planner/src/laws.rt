@@ -1,5 +1,5 @@
 // Theorems about plans. Each function's contract is the theorem; what it returns says nothing.
-ghost use Rattle.planner.specs.Circle.{Bytes-agree};
+ghost use Rattle.planner.specs.Theorems.{Break-rounds, Bytes-agree};
 ghost use Rattle.planner.specs.Worked.{Worked-plans};
 ghost use Rattle.season.specs.Promise.{Planned, Breaks-needed, Begin-differently};
 
@@ -20,6 +20,13 @@ pub fn breaks_are_needed() -> u8
 // Two teams without a break, in a proper plan, do not begin alike.
 pub fn unbroken_begin_differently() -> u8
     ensures { λ _. ⌜ Begin-differently ⌝ }
+{
+    0
+}
+
+// In the plan by circles team i has a break in round i or i + 1, whichever is odd, if the plan has that round, and no other.
+pub fn break_rounds() -> u8
+    ensures { λ _. ⌜ Break-rounds ⌝ }
 {
     0
 }

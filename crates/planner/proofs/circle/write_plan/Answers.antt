@@ -5,7 +5,8 @@ use Rattle.std.proofs.shelf.Ways.{tells}
 use Rattle.planner.proofs.Best.{planned}
 use Rattle.planner.proofs.ReadBack.{bytes-agree}
 use Rattle.planner.proofs.circle.write_plan.Needs as need
-use Rattle.planner.specs.Circle.{Bytes-agree, with-plan}
+use Rattle.planner.specs.Circle.{with-plan}
+use Rattle.planner.specs.Theorems.{Bytes-agree}
 use Rattle.season.proofs.Agreement.{breaks-agree, best-agree}
 use Rattle.season.specs.Bytes.{plan-of}
 use Rattle.season.specs.Plan.{Agree, breaks, circle}
