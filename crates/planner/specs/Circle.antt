@@ -54,7 +54,7 @@ with-round n r old = take (r * n) old ++ (round-bytes n r ++ drop (r * n + n) ol
 -- n teams for which a plan is made, and so many bytes that they hold it
 pub record Fitting (n bytes : ℕ) : Type 0 where
   pub some-teams : 0 < n
-  pub two-sides : n % 2 ≡ 0
+  pub even-teams : n % 2 ≡ 0
   pub few-teams : n ≤ 64
   pub room : plan-length n ≤ bytes
 

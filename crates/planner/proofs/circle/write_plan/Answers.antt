@@ -22,8 +22,8 @@ returns c =
     let fitting = checked .fitting .1 in
     let bytes : plan ≡ with-plan n old = rw (checked .fitting .0) at (c .write-rounds .ensures) in
     let counted : c .breaks-in .result ≡ breaks n (plan-of n plan) = rw (checked .fitting .0) at (c .breaks-in .ensures) in
-    let agree : Agree n (plan-of n plan) (circle n) = rw bytes (bytes-agree n old (fitting .some-teams) (fitting .two-sides)) in
-    let all = planned n (fitting .some-teams) (fitting .two-sides) in
+    let agree : Agree n (plan-of n plan) (circle n) = rw bytes (bytes-agree n old (fitting .some-teams) (fitting .even-teams)) in
+    let all = planned n (fitting .some-teams) (fitting .even-teams) in
     let count : c .breaks-in .result ≡ n - 2 = counted ∙ breaks-agree agree ∙ all .1 in
     record {
       answer = grind (arith, tells);
