@@ -10,7 +10,7 @@ use Rattle.std.specs.Numbers.{remEuclid}
 use Rattle.std.proofs.shelf.Signed.{ints, remEuclid-is}
 use Rattle.season.specs.Plan.{rest}
 
--- the place on a circle of m, k times round which is the natural x
+-- of a place that, k times round a circle of m, comes to the natural number x
 pub remainder :
     (found place size : ℤ) (m k x : ℕ) → 0 < m → m < 256 → found ≡ remEuclid place size → size ≡ pos m →
     place +ℤ pos (k * m) ≡ pos x → natAbs (toZ w32 (ofZ w32 found)) ≡ rest m x

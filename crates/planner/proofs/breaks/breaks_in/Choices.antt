@@ -1,3 +1,4 @@
+-- The breaks of the teams so far are counted, at most 64 a team.
 use mathlib.Core.Path.{_≡_}
 use Prim.Native.Nat.{_*_, _≤_}
 use Rattle.planner.proofs.breaks.breaks_in.Given as given

@@ -1,3 +1,4 @@
+-- The breaks of the rounds so far are counted, at most one a round.
 use mathlib.Core.Path.{_≡_}
 use Prim.Native.Nat.{_≤_}
 use Rattle.planner.proofs.breaks.breaks_of.Given as given

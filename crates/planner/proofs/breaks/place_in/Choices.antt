@@ -1,3 +1,4 @@
+-- No place so far has the team's byte.
 use lib.Dec.{eqb}
 use lib.ListN.{length, getD}
 use Rattle.planner.proofs.breaks.place_in.Given as given

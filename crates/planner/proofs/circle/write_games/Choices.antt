@@ -1,3 +1,4 @@
+-- The games so far are written, and what follows them is as it was.
 use mathlib.Core.Path.{_≡_}
 use Prim.Native.Nat.{_*_}
 use Rattle.planner.proofs.circle.write_games.Given as given

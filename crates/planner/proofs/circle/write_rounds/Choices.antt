@@ -1,3 +1,4 @@
+-- The rounds so far are written, and what follows them is as it was.
 use mathlib.Core.Path.{_≡_}
 use Prim.Native.Nat.{_*_}
 use Rattle.planner.proofs.circle.write_rounds.Given as given
