@@ -9,6 +9,7 @@ use Rattle.std.specs.Iters.{counting}
 use Rattle.season.specs.declared.game.Game.{Game}
 use Rattle.season.specs.Plan.{pick, rest, unplanned}
 use Rattle.season.specs.Refused.{Told, given, refused, unless}
+use Rattle.season.specs.Rows.{written}
 
 -- the game of two teams, the first at home if the test is true, else the second
 abbrev pub meeting : Bool → ℕ → ℕ → Game
@@ -45,7 +46,7 @@ plan-bytes n = map (plan-byte n) (counting 0 (plan-length n))
 
 -- memory with the plan written at its front, and after that what stood there
 abbrev pub with-plan : ℕ → List ℕ → List ℕ
-with-plan n old = plan-bytes n ++ drop (plan-length n) old
+with-plan n old = written (plan-byte n) (plan-length n) old
 
 -- memory with round r of the plan written over its part of it
 abbrev pub with-round : ℕ → ℕ → List ℕ → List ℕ

@@ -29,8 +29,8 @@ fn home(plan: &[u8], n: usize, r: usize, team: usize) -> Option<bool> {
 }
 
 fn meet(plan: &[u8], n: usize, a: usize, b: usize) -> bool {
-    for r in 0..n {
-        let Some(round) = round_in(plan, n, r) else {
+    for r in 1..n {
+        let Some(round) = round_in(plan, n, r - 1) else {
             return false;
         };
         for k in 0..n / 2 {
