@@ -1,4 +1,6 @@
 // The season: games, rounds, refusals and the reader of table files.
+#![tactic(auto)]
+
 pub mod game;
 pub mod laws;
 pub mod plan;

@@ -1,4 +1,6 @@
 // Reads a table's file, and says what it holds.
+#![tactic(auto)]
+
 ghost use Rattle.std.specs.Prelude.{◌≡◌, true, false, is_ok, MatchResult};
 ghost use Rattle.season.specs.Reading.{outcome};
 ghost use Rattle.season.specs.Refused.{is_given};

@@ -1,4 +1,6 @@
 // Prints the plan for a number of teams, with the fewest breaks there can be.
+#![tactic(auto)]
+
 ghost use Rattle.std.specs.Prelude.{◌≡◌, ◌<◌, true, false, is_ok, Decides};
 ghost use Rattle.planner.specs.Circle.{plan_length, unless_unfit};
 ghost use Rattle.season.specs.Refused.{given, is_given};

@@ -1,4 +1,6 @@
 // Examples of what the season's crates do: each test is proved to be safe, and then run.
+#![tactic(auto)]
+
 #[cfg(test)]
 mod files;
 #[cfg(test)]
