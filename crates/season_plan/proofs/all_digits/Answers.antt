@@ -15,6 +15,6 @@ returns-then-b-lt48 c = (
 pub returns : goal.returns
 returns c =
     let digits = by_bytes.to c.args.bytes.now (λ i l. c.loop-b.invariant i (omega arith)) in (
-      λ e. (omega (arith, eqb-false _ 0 (sym c.is-empty.ensures ∙ not-true _ e)), digits),
-      λ n. not_from_false _ (c.is-empty.ensures ∙ ne_eqb _ 0 (omega (arith, n.0))),
+      λ e. (omega (arith, eqb-false _ 0 (sym c.is_empty.ensures ∙ not-true _ e)), digits),
+      λ n. not_from_false _ (c.is_empty.ensures ∙ ne_eqb _ 0 (omega (arith, n.0))),
     )

@@ -1,6 +1,6 @@
 use Rattle.std.proofs.Common.{◌≡◌, ℕ, suc, ◌+◌, List, sym, refl, ap, ◌∙◌, add-one, arith}
 use Rattle.planner.proofs.breaks.breaks_of.Goals as goal
-use Rattle.planner.proofs.breaks.breaks_of.Goals.{then-has-break, else-has-break}
+use Rattle.planner.proofs.breaks.breaks_of.Goals.{then-has_break, else-has_break}
 use Rattle.season.proofs.Spans.{span_more}
 use Rattle.season.specs.Bytes.{plan_of, round_at, home_in}
 use Rattle.season.specs.Plan.{equal, span, break_at, pick}
@@ -22,14 +22,14 @@ loop-r-preserved c =
     let team = c.args.team in
     let r = c.loop-r.r in
     let here = home_of n r plan _ team c.round_of.ensures in
-    let next = home_of n (r + 1) plan _ team c.round-of-in-loop-r.ensures in
+    let next = home_of n (r + 1) plan _ team c.round_of-in-loop-r.ensures in
     let same : c.has_break.result ≡ equal (s.home (suc r) team) (s.home r team) = cc (add-one r) in
     let more = span_more (break_at s team) r in
-    elim c.if-has-break.branch [
-      | then-has-break w ↦
-          let turn : break_at s team r ≡ 1 = ap (λ b. pick b 1 0) (sym same ∙ w.if-has-break.true) in
+    elim c.if-has_break.branch [
+      | then-has_break w ↦
+          let turn : break_at s team r ≡ 1 = ap (λ b. pick b 1 0) (sym same ∙ w.if-has_break.true) in
           (omega arith, omega arith)
-      | else-has-break w ↦
-          let turn : break_at s team r ≡ 0 = ap (λ b. pick b 1 0) (sym same ∙ w.if-has-break.false) in
+      | else-has_break w ↦
+          let turn : break_at s team r ≡ 0 = ap (λ b. pick b 1 0) (sym same ∙ w.if-has_break.false) in
           (omega arith, omega arith)
     ]

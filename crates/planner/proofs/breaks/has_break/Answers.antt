@@ -8,4 +8,4 @@ unfolding equal
 alike a b = grind arith
 
 pub returns : goal.returns
-returns c = rw (c.at_home.ensures, c.at-home-2.ensures) (alike _ _)
+returns c = rw (c.at_home.ensures, c.at_home-2.ensures) (alike _ _)

@@ -3,8 +3,8 @@ use Rattle.std.proofs.lemmas.List.{drop-drop}
 use Rattle.planner.proofs.Rounds.{next_round, round_within}
 use Rattle.planner.proofs.circle.write_round.Goals as goal
 
-pub slice-bounds-write-games-end : goal.slice-bounds-write-games-end
-slice-bounds-write-games-end c = round_within c.requires.0 (c.args.r + 1) (omega arith)
+pub slice_bounds-write_games-end : goal.slice_bounds-write_games-end
+slice_bounds-write_games-end c = round_within c.requires.0 (c.args.r + 1) (omega arith)
 
 pub returns : goal.returns
 returns c =

@@ -9,6 +9,6 @@ returns c =
       answer = told.answer;
       points = told.points;
       games = told.games;
-      exact = exact _ _ _ c.read_checked.result _ _ _ _ (λ i. (c.type-inv.file i).fits)
+      exact = exact _ _ _ c.read_checked.result _ _ _ _ (λ i. (c.type_inv.file i).fits)
           told.answer told.points told.games (omega arith) (omega arith);
     }

@@ -5,11 +5,11 @@ use Rattle.standings.proofs.ReadTables.{finals_read}
 use Rattle.standings.proofs.Rooms.{cut_room, ended_room}
 use Rattle.standings.proofs.endings.points_after.Goals as goal
 
-pub returns-in-default : goal.returns-in-default
-returns-in-default c =
+pub returns-in_default : goal.returns-in_default
+returns-in_default c =
     let own = cut_room _ 64 _ c.min.result refl c.min.ensures in
     record {
-      answer = c.read-ended-checked.ensures.answer ∙ ended_room c.args.file.now c.args.ending.now _ _ _ refl own;
+      answer = c.read_ended-checked.ensures.answer ∙ ended_room c.args.file.now c.args.ending.now _ _ _ refl own;
       points = search rules;
       ending = search rules;
     }
@@ -17,7 +17,7 @@ returns-in-default c =
 pub returns : goal.returns
 returns c =
     let xs = c.args.ending.now in
-    let read = c.in-Ok.ensures in
+    let read = c.in_ok.ensures in
     let own = cut_room _ 64 _ c.min.result refl c.min.ensures in
     record {
       answer = read.answer ∙ ended_room c.args.file.now xs _ _ _ refl own;

@@ -9,8 +9,8 @@ pub loop-k-init : goal.loop-k-init
 unfolding won
 loop-k-init c = refl
 
-pub overflow-add-gained : goal.overflow-add-gained
-overflow-add-gained c =
+pub overflow_add-gained : goal.overflow_add-gained
+overflow_add-gained c =
     let few = won_before c.args.games.now c.loop-k.k c.args.results.now c.args.team in
     let game = get_or c.args.games.now c.loop-k.k (record { host = 0; guest = 0 }) in
     omega (arith, share_few (match_of game) (byte_beside c.args.results.now c.loop-k.k) c.args.team)

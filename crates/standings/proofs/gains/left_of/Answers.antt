@@ -10,8 +10,8 @@ pub loop-game-init : goal.loop-game-init
 unfolding left_of
 loop-game-init c = refl
 
-pub overflow-add-left : goal.overflow-add-left
-overflow-add-left c = omega (arith, left_of_before c.args.games.now c.loop-game.game-index c.args.team)
+pub overflow_add-left : goal.overflow_add-left
+overflow_add-left c = omega (arith, left_of_before c.args.games.now c.loop-game.game-index c.args.team)
 
 pub loop-game-preserved : goal.loop-game-preserved
 loop-game-preserved c =

@@ -5,11 +5,11 @@ use Rattle.standings.proofs.FullRows.{won_gained}
 use Rattle.standings.proofs.Matches.{won_few}
 use Rattle.standings.proofs.gains.points_with.Goals as goal
 
-pub gained-by-requires : goal.gained-by-requires
-gained-by-requires c = omega (arith, c.requires.within.left_few, length-map c.args.games.now match_of)
+pub gained_by-requires : goal.gained_by-requires
+gained_by-requires c = omega (arith, c.requires.within.left_few, length-map c.args.games.now match_of)
 
-pub overflow-add-result : goal.overflow-add-result
-overflow-add-result c =
+pub overflow_add-result : goal.overflow_add-result
+overflow_add-result c =
     let few = won_few (map match_of c.args.games.now) c.args.results.now c.args.team in
     omega (arith, c.requires.within.left_few, c.requires.within.points_low c.args.team c.requires.there)
 

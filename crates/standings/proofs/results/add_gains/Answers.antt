@@ -2,8 +2,8 @@ use Rattle.std.proofs.Common.{◌≡◌, length, arith}
 use Rattle.season.proofs.Written.{written_more, written_past}
 use Rattle.standings.proofs.results.add_gains.Goals as goal
 
-pub overflow-add-points : goal.overflow-add-points
-overflow-add-points c =
+pub overflow_add-points : goal.overflow_add-points
+overflow_add-points c =
     let had = written_past _ c.args.points.now _ _ 0 c.loop-team.invariant in
     omega (arith, c.requires.low c.loop-team.team c.loop-team-test.true)
 

@@ -3,5 +3,5 @@ use Rattle.season.specs.Encoding.{match_of}
 use Rattle.standings.proofs.Matches.{left_of_few}
 use Rattle.standings.proofs.sure.can_pass.Goals as goal
 
-pub overflow-cast-left-of : goal.overflow-cast-left-of
-overflow-cast-left-of c = omega (arith, c.requires.0.within.left_few, left_of_few (map match_of c.args.games.now) c.args.other)
+pub overflow_cast-left_of : goal.overflow_cast-left_of
+overflow_cast-left_of c = omega (arith, c.requires.0.within.left_few, left_of_few (map match_of c.args.games.now) c.args.other)

@@ -6,10 +6,10 @@ use Rattle.season.specs.Encoding.{table_held}
 use Rattle.standings.proofs.SureFirst.{sure_decides}
 use Rattle.standings.proofs.sure.is_sure.Goals as goal
 
-pub returns-then-can-pass : goal.returns-then-can-pass
-returns-then-can-pass c =
+pub returns-then-can_pass : goal.returns-then-can_pass
+returns-then-can_pass c =
     let t = table_held c.args.points.now c.args.games.now in
-    let at = first_found _ _ _ c.loop-other-test.true (sym c.if-can-pass.ensures) c.loop-other.invariant in
+    let at = first_found _ _ _ c.loop-other-test.true (sym c.if-can_pass.ensures) c.loop-other.invariant in
     let answer = sym (lt-leb _ _ (omega (arith, at))) in
     record {
       answer = answer;
@@ -17,7 +17,7 @@ returns-then-can-pass c =
     }
 
 pub loop-other-preserved : goal.loop-other-preserved
-loop-other-preserved c = passed_more _ _ _ c.loop-other-test.true (sym c.if-can-pass.ensures) c.loop-other.invariant
+loop-other-preserved c = passed_more _ _ _ c.loop-other-test.true (sym c.if-can_pass.ensures) c.loop-other.invariant
 
 pub returns : goal.returns
 returns c =
