@@ -8,7 +8,7 @@ use Rattle.season.specs.declared.game.Game.{Game}
 use Rattle.season.specs.declared.table.Sizes.{Sizes}
 use Rattle.season.specs.Bytes.{number_at, game_at}
 use Rattle.season.specs.Encoding.{Within, Same, Holds, ReadBack, points_bytes, match_bytes, encoded}
-use Rattle.season.specs.Encoding.{match_of, table_of, table_in, sizes_of}
+use Rattle.season.specs.Encoding.{match_of, table_front, table_in, sizes_of}
 use Rattle.season.specs.Reading.{outcome, checked, unless_short, points_in, games_in, sizes_in}
 use Rattle.season.specs.Reading.{unserved, cut, above, wrong_length, absent, against_itself}
 use Rattle.season.specs.Refused.{given}
@@ -108,10 +108,10 @@ module _ (t : Table) (w : Within t) where
 pub read_back : ReadBack
 read_back t w row points = (passes t w row points, same t w)
 
--- the table that lent memory holds of a file is the table of the file
+-- the table with which lent memory begins is the table of the file
 pub same_held :
     {file : List ℕ} {s : Sizes} {points : List ℕ} {row : List Game} → Holds file s points row →
-    Same (table_of s points row) (table_in file)
+    Same (table_front s points row) (table_in file)
 same_held {file} {s} {points} {row} h =
-    let t = table_of s points row in
+    let t = table_front s points row in
     subst (λ bytes. Same t (table_in bytes)) h.encodes (read_back t h.within 0 0).1

@@ -1,12 +1,13 @@
 -- The same table: it keeps to the limits alike, and has one file. What lent memory holds of a file that was read is the table of the file.
-use Rattle.std.proofs.Common.{◌≡◌, ℕ, ◌<◌, List, ◌++◌, map, length, drop, sym, ap, ◌∙◌, arith}
+use Rattle.std.proofs.Common.{◌≡◌, ℕ, ◌<◌, ◌≤◌, List, ◌++◌, map, length, take, drop, refl, sym, ap, ◌∙◌, arith}
 use mathlib.Core.List.{map-map}
 use Rattle.std.specs.List.{range_with_len}
 use Rattle.std.proofs.lemmas.List.FromFn.{length-map-range_with_len, get_or-map-range_with_len, fill_by_all}
-use Rattle.std.proofs.lemmas.List.{take_at}
+use Rattle.std.proofs.lemmas.List.{get_or-take, length-take, take_at}
 use Rattle.season.specs.declared.game.Game.{Game}
+use Rattle.season.specs.declared.table.Sizes.{Sizes}
 use Rattle.season.specs.Bytes.{game_at}
-use Rattle.season.specs.Encoding.{Within, Same, encoded, match_of, table_of, table_in}
+use Rattle.season.specs.Encoding.{Within, Same, encoded, match_of, table_of, table_front, table_in}
 use Rattle.season.specs.Reading.{sizes_in, points_after, games_after}
 use Rattle.season.specs.Refused.{given}
 use Rattle.season.specs.Rows.{written}
@@ -54,7 +55,7 @@ module _ {t u : Table} (same : Same t u) where
 pub same_rows :
     (t : Table) (games : List Game) (m : ℕ) (old : List ℕ) (older : List Game) →
     length games ≡ m → map match_of games ≡ t.left →
-    Same t (table_of (record { teams = t.teams; games = m }) (written t.points t.teams old) (games ++ drop m older))
+    Same t (table_front (record { teams = t.teams; games = m }) (written t.points t.teams old) (games ++ drop m older))
 same_rows t games m old older long is_left =
     let n = t.teams in
     let points_front = take_at (map t.points (range_with_len 0 n)) (drop n old) n (length-map-range_with_len t.points 0 n) in
@@ -64,10 +65,19 @@ same_rows t games m old older long is_left =
       left = sym (ap (map match_of) (take_at games (drop m older) m long) ∙ is_left);
     }
 
--- the table that lent memory holds after a file was read
+-- the table that lent memory holds is the one that the two rows at its front hold
+pub same_front :
+    (s : Sizes) (points : List ℕ) (row : List Game) → s.teams ≤ length points → Same (table_front s points row) (table_of s points row)
+same_front s points row l = record {
+  teams = simp length-take (omega arith);
+  points = λ i below. get_or-take s.teams points i 0 (omega (arith, length-take s.teams points));
+  left = refl;
+}
+
+-- the table with which lent memory begins after a file was read
 abbrev pub table_read : List ℕ → List ℕ → List Game → Table
 table_read file old older =
-    table_of (sizes_in file) (points_after (given (sizes_in file)) file old) (games_after (given (sizes_in file)) file older)
+    table_front (sizes_in file) (points_after (given (sizes_in file)) file old) (games_after (given (sizes_in file)) file older)
 
 pub same_read : (file old : List ℕ) (older : List Game) → Same (table_in file) (table_read file old older)
 same_read file old older =

@@ -43,13 +43,17 @@ pub record Same (t u : Table) : Type 0 where
 abbrev pub match_of : Game → Match
 match_of g = record { host = g.host; guest = g.guest }
 
+-- the table of these sizes that lent memory holds: points by team, and a row of games
+abbrev pub table_of : Sizes → List ℕ → List Game → Table
+table_of s points row = record { teams = s.teams; points = λ i. slice_index points i; left = map match_of (take s.games row) }
+
 -- the table that two rows hold: the points of each team, and the games left
 abbrev pub table_held : List ℕ → List Game → Table
 table_held points games = record { teams = length points; points = λ i. slice_index points i; left = map match_of games }
 
--- the table of these sizes with which lent memory begins
-abbrev pub table_of : Sizes → List ℕ → List Game → Table
-table_of s points row = table_held (take s.teams points) (take s.games row)
+-- the table of these sizes with which lent memory begins, held by the two rows at its front
+abbrev pub table_front : Sizes → List ℕ → List Game → Table
+table_front s points row = table_held (take s.teams points) (take s.games row)
 
 -- the table that is read of a file
 abbrev pub table_in : List ℕ → Table
@@ -76,15 +80,15 @@ TakenEncodes =
     (file : List ℕ) (row points : ℕ) (s : Sizes) → ((i : ℕ) → slice_index file i < 256) → outcome file row points ≡ given s →
     Within (table_in file) × (encoded (table_in file) ≡ file)
 
+-- an answer is exact: taken, the file is that of the table that lent memory now holds, within the limits; refused for
+-- anything but short memory, it is the file of no table within the limits
+abbrev pub Exact : List ℕ → Result Sizes Refusal → List ℕ → List Game → Type 0
+Exact file (Ok s) points row = Within (table_of s points row) × (encoded (table_of s points row) ≡ file)
+Exact file (Err e) points row = (t : Table) → Within t → encoded t ≡ file → number_of e ≡ 10
+
 -- lent memory begins with a table of these sizes, within the limits, and the file is that of the table
 pub record Holds (file : List ℕ) (s : Sizes) (points : List ℕ) (row : List Game) : Type 0 where
   pub teams_there : s.teams ≤ length points
   pub games_there : s.games ≤ length row
-  pub within : Within (table_of s points row)
-  pub encodes : encoded (table_of s points row) ≡ file
-
--- an answer is exact: taken, lent memory now holds the table of the file; refused for anything but short memory, it is the
--- file of no table within the limits
-abbrev pub Exact : List ℕ → Result Sizes Refusal → List ℕ → List Game → Type 0
-Exact file (Ok s) points row = Holds file s points row
-Exact file (Err e) points row = (t : Table) → Within t → encoded t ≡ file → number_of e ≡ 10
+  pub within : Within (table_front s points row)
+  pub encodes : encoded (table_front s points row) ≡ file

@@ -1,8 +1,8 @@
 // The reader of table files. A file has the number of teams in one byte, two bytes of points for each team, the low one first,
 // then host and guest of each game left. It is read into lent memory, or turned away by the first check that applies.
-ghost use Rattle.std.specs.Prelude.{◌≡◌, ◌+◌, ◌*◌, ◌/◌, ◌<◌, ◌≤◌, length};
+ghost use Rattle.std.specs.Prelude.{◌≡◌, ◌+◌, ◌*◌, ◌/◌, ◌<◌, ◌≤◌, length, IfOk};
 ghost use Rattle.season.specs.Bytes.{number_at, game_at};
-ghost use Rattle.season.specs.Encoding.{Exact};
+ghost use Rattle.season.specs.Encoding.{Exact, Holds};
 ghost use Rattle.season.specs.Reading.{outcome, points_after, games_after, teams_in, sizes_in, points_in, games_in};
 ghost use Rattle.season.specs.Reading.{unless_at, unless_short};
 ghost use Rattle.season.specs.Reading.{unserved, cut, above, wrong_length, absent, against_itself};
@@ -227,6 +227,7 @@ pub fn read_table(file: &[u8], points: &mut [u16], row: &mut [Game]) -> Result<S
     ensures points { points.new ≡ points_after (told result) file.now points.old }
     ensures games { row.new ≡ games_after (told result) file.now row.old }
     ensures exact { Exact file.now result points.new row.new }
+    ensures held { IfOk result (λ s. Holds file.now s points.new row.new) }
 {
     read_checked(file, points, row)
 }

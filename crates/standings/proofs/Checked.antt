@@ -6,7 +6,7 @@ use Rattle.season.proofs.Checks.{passed, passed_at}
 use Rattle.season.specs.declared.game.Game.{Game}
 use Rattle.season.specs.declared.refusal.Refusal.{Refusal}
 use Rattle.season.specs.declared.table.Sizes.{Sizes}
-use Rattle.season.specs.Encoding.{Holds, match_of, table_of}
+use Rattle.season.specs.Encoding.{Holds, match_of, table_front}
 use Rattle.season.specs.Refused.{given, told}
 use Rattle.season.specs.Table.{Ending}
 use Rattle.standings.proofs.FullRows.{ending_from}
@@ -29,7 +29,7 @@ ended (Err f) xs s e = tt
 -- such a row is an ending of the matches of the table read
 pub ending_of :
     {file : List ℕ} {s : Sizes} {points : List ℕ} {row : List Game} {xs : List ℕ} →
-    Holds file s points row → Shares xs s.games → Ending (table_of s points row).left xs
+    Holds file s points row → Shares xs s.games → Ending (table_front s points row).left xs
 ending_of {s = s} {row = row} {xs = xs} h shares =
     let left = length-map (take s.games row) match_of ∙ length-take-le s.games row h.games_there in
     ending_from _ xs (shares.long ∙ sym left) shares.low

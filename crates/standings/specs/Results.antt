@@ -2,7 +2,7 @@
 use Rattle.std.specs.Prelude.{ℕ, ◌+◌, ◌-◌, ◌<◌, ◌≤◌, Bool, List, [], ◌∷◌, ◌++◌, map, length, drop, ◌==◌, nat_le, nat_lt, slice_index_or}
 use Rattle.season.specs.declared.game.Game.{Game}
 use Rattle.season.specs.declared.table.Sizes.{Sizes}
-use Rattle.season.specs.Encoding.{Same, Within, sizes_of, table_in, table_of}
+use Rattle.season.specs.Encoding.{Same, Within, sizes_of, table_in, table_front}
 use Rattle.season.specs.Plan.{pick}
 use Rattle.season.specs.Reading.{outcome, unless_at}
 use Rattle.season.specs.Refused.{Told, and_then, given, refused}
@@ -74,5 +74,5 @@ games_then (refused number place) t old = old
 pub record Played (t : Table) (xs : List ℕ) (s : Sizes) (points : List ℕ) (row : List Game) : Type 0 where
   pub teams_there : s.teams ≤ length points
   pub games_there : s.games ≤ length row
-  pub within : Within (table_of s points row)
-  pub same : Same (after t xs) (table_of s points row)
+  pub within : Within (table_front s points row)
+  pub same : Same (after t xs) (table_front s points row)

@@ -1,6 +1,6 @@
 // The points after an ending, which gives the host's points for each game left, in order.
 ghost use Rattle.std.specs.Prelude.{◌≡◌, ◌≤◌, min, map, length, IfOk};
-ghost use Rattle.season.specs.Encoding.{Holds, Within, match_of, table_held, table_in, table_of};
+ghost use Rattle.season.specs.Encoding.{Holds, Within, match_of, table_held, table_in, table_front};
 ghost use Rattle.season.specs.Reading.{outcome};
 ghost use Rattle.season.specs.Refused.{told, given, and_then};
 ghost use Rattle.season.specs.Rows.{written};
@@ -45,7 +45,7 @@ fn read_ended(
     ensures answer { told result ≡ and_then (outcome file.now (length row.old) (length points.old))
         (λ s. unless_no_ending ending.now s.games (given s)) }
     ensures held { IfOk result (λ s. Holds file.now s points.new row.new
-        × Ending (table_of s points.new row.new).left ending.now) }
+        × Ending (table_front s points.new row.new).left ending.now) }
 {
     let read = read_table(file, points, row);
     let Ok(sizes) = read else {

@@ -1,6 +1,6 @@
 use Rattle.std.proofs.Common.{ap, ◌∙◌, subst}
 use Rattle.std.proofs.lemmas.Result.{IfOk-weaker}
-use Rattle.season.specs.Encoding.{Holds, table_of}
+use Rattle.season.specs.Encoding.{Holds, table_front}
 use Rattle.season.specs.Refused.{and_then, given}
 use Rattle.season.specs.Table.{Ending}
 use Rattle.standings.proofs.Checked.{ended, ending_of}
@@ -17,6 +17,6 @@ returns c =
     record {
       answer = c.check_ending.ensures ∙ ap (λ o. and_then o (λ s. unless_no_ending xs s.games (given s))) read.answer;
       held = IfOk-weaker c.check_ending.result _ _ (λ z h. subst
-          (λ z. Holds c.args.file.now z points row × Ending (table_of z points row).left xs) h.0
-          (read.exact, ending_of read.exact h.1)) known;
+          (λ z. Holds c.args.file.now z points row × Ending (table_front z points row).left xs) h.0
+          (read.held, ending_of read.held h.1)) known;
     }

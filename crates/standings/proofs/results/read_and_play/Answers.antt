@@ -14,7 +14,7 @@ returns c =
     let points = take (s.teams - 0) c.read_table-checked.new.points in
     let games = take (s.games - 0) c.read_table-checked.new.row in
     let same : Same (table_held points games) (table_in c.args.file.now) =
-    rw (sub-zero s.teams, sub-zero s.games) (same_held read.exact) in
+    rw (sub-zero s.teams, sub-zero s.games) (same_held read.held) in
     let told = c.play_results.ensures in
     record {
       answer = told.answer ∙ told_after_same same xs ∙ outcome_played c.args.file.now xs _ _ s read.answer;
