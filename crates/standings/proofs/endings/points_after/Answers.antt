@@ -17,7 +17,7 @@ returns-in_default c =
 pub returns : goal.returns
 returns c =
     let xs = c.args.ending.now in
-    let read = c.in_ok.ensures in
+    let read = c.in-Ok.ensures in
     let own = cut_room _ 64 _ c.min.result refl c.min.ensures in
     record {
       answer = read.answer ∙ ended_room c.args.file.now xs _ _ _ refl own;

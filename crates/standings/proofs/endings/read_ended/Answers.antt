@@ -9,11 +9,11 @@ use Rattle.standings.specs.Asked.{unless_no_ending}
 
 pub returns : goal.returns
 returns c =
-    let read = c.in_ok.ensures in
+    let read = c.in-Ok.ensures in
     let xs = c.args.ending.now in
     let points = c.read_table-read.new.points in
     let row = c.read_table-read.new.row in
-    let known = ended c.check_ending.result xs c.in_ok.sizes c.check_ending.ensures in
+    let known = ended c.check_ending.result xs c.in-Ok.sizes c.check_ending.ensures in
     record {
       answer = c.check_ending.ensures ∙ ap (λ o. and_then o (λ s. unless_no_ending xs s.games (given s))) read.answer;
       held = IfOk-weaker c.check_ending.result _ _ (λ z h. subst

@@ -9,8 +9,8 @@ loop-k-init c = kept_none _ _
 pub bounds-games-left : goal.bounds-games-left
 bounds-games-left c = omega (arith, kept_few c.loop-k.invariant)
 
-pub offset-bounds-games-left : goal.offset-bounds-games-left
-offset-bounds-games-left c = omega (arith, kept_few c.loop-k.invariant)
+pub offset_bounds-games-left : goal.offset_bounds-games-left
+offset_bounds-games-left c = omega (arith, kept_few c.loop-k.invariant)
 
 pub overflow_add-left : goal.overflow_add-left
 overflow_add-left c = omega (arith, kept_few c.loop-k.invariant)

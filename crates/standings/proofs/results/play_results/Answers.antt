@@ -9,16 +9,16 @@ use Rattle.standings.specs.Results.{after}
 pub add_gains-requires : goal.add_gains-requires
 add_gains-requires c = record {
   few = omega (arith, c.requires.left_few, length-map c.args.games.now match_of);
-  low = (low_passed _ _ _ _ c.in_ok.ensures).0;
+  low = (low_passed _ _ _ _ c.in-Ok.ensures).0;
 }
 
 pub returns : goal.returns
 returns c =
     let t = table_held c.args.points.now c.args.games.now in
     let xs = c.args.results.now in
-    let known = low_passed t xs _ _ c.in_ok.ensures in
+    let known = low_passed t xs _ _ c.in-Ok.ensures in
     let kept = c.keep_unplayed-games.ensures in
-    let sizes : record { teams = c.in_ok.sizes.teams; games = c.keep_unplayed-games.result } ≡ sizes_of (after t xs) =
+    let sizes : record { teams = c.in-Ok.sizes.teams; games = c.keep_unplayed-games.result } ≡ sizes_of (after t xs) =
     λ i. record { teams = (known.1 i).teams; games = kept.answer i } in
     let games = rw kept.answer at kept.games in
     record {

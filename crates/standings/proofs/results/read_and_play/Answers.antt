@@ -8,9 +8,9 @@ use Rattle.standings.proofs.results.read_and_play.Goals as goal
 
 pub returns : goal.returns
 returns c =
-    let read = c.in_ok.ensures in
+    let read = c.in-Ok.ensures in
     let xs = c.args.results.now in
-    let s = c.in_ok.field-0 in
+    let s = c.in-Ok.field-0 in
     let points = take (s.teams - 0) c.read_table-checked.new.points in
     let games = take (s.games - 0) c.read_table-checked.new.row in
     let same : Same (table_held points games) (table_in c.args.file.now) =

@@ -19,7 +19,7 @@ pub returns : goal.returns
 returns c =
     let own = cut_room _ 64 _ c.min.result refl c.min.ensures in
     let own_row = cut_room _ 1024 _ c.min-2.result refl c.min-2.ensures in
-    let told = c.in_ok.ensures in
+    let told = c.in-Ok.ensures in
     record {
       answer = told.answer ∙ played_room c.args.file.now c.args.results.now _ _ _ _ own_row own;
       points = c.copy_front.ensures ∙ copied_points told.played _;
