@@ -24,9 +24,13 @@ fn answer(file: &[u8], teams: usize, games: usize) -> Result<Sizes, Refusal> {
     )
 }
 
-fn check_refused(rt: &impl Abort, file: &[u8], refusal: Refusal) -> Result<(), Fail> {
+fn check_refused(rt: &impl Abort, file: &[u8], refusal: Refusal) {
     assert_eq!(rt; answer(file, 64, 1024), Err(refusal));
-    Ok(())
+}
+
+// The same of a file to which a later rule applies too.
+fn check_refused_first(rt: &impl Abort, file: &[u8], refusal: Refusal, also: &str) {
+    assert_eq!(rt; answer(file, 64, 1024), Err(refusal), "{also}");
 }
 
 #[test]
@@ -58,80 +62,77 @@ fn what_is_refused_changes_nothing(rt: HostRuntime) {
 }
 
 #[test]
-fn teams_are_2_to_64(rt: HostRuntime) -> Result<(), Fail> {
-    check_refused(&rt, &[], Refusal::TableTeams)?;
-    check_refused(&rt, &[0], Refusal::TableTeams)?;
-    check_refused(&rt, &[1, 0, 0], Refusal::TableTeams)?;
-    check_refused(&rt, &[65], Refusal::TableTeams)?;
-    check_refused(&rt, &[255], Refusal::TableTeams)?;
+fn teams_are_2_to_64(rt: HostRuntime) {
+    check_refused(&rt, &[], Refusal::TableTeams);
+    check_refused(&rt, &[0], Refusal::TableTeams);
+    check_refused(&rt, &[1, 0, 0], Refusal::TableTeams);
+    check_refused(&rt, &[65], Refusal::TableTeams);
+    check_refused(&rt, &[255], Refusal::TableTeams);
     assert_eq!(rt;
         answer(&[2, 0, 0, 0, 0], 64, 1024),
         Ok(Sizes { teams: 2, games: 0 })
     );
-    Ok(())
 }
 
 #[test]
-fn points_are_whole(rt: HostRuntime) -> Result<(), Fail> {
-    check_refused(&rt, &THREE[0..1], Refusal::FileEnds(1))?;
-    check_refused(&rt, &THREE[0..6], Refusal::FileEnds(6))?;
+fn points_are_whole(rt: HostRuntime) {
+    check_refused(&rt, &THREE[0..1], Refusal::FileEnds(1));
+    check_refused(&rt, &THREE[0..6], Refusal::FileEnds(6));
     assert_eq!(rt;
         answer(&THREE[0..7], 64, 1024),
         Ok(Sizes { teams: 3, games: 0 })
     );
-    Ok(())
 }
 
 // 1,000 is 232 and 3 × 256.
 #[test]
-fn points_are_at_most_1000(rt: HostRuntime) -> Result<(), Fail> {
-    check_refused(&rt, &[3, 233, 3, 6, 0, 4, 0], Refusal::PointsAbove(0))?;
-    check_refused(&rt, &[3, 232, 3, 6, 0, 233, 3], Refusal::PointsAbove(2))?;
-    check_refused(&rt, &[3, 0, 0, 0, 4, 255, 255], Refusal::PointsAbove(1))?;
+fn points_are_at_most_1000(rt: HostRuntime) {
+    check_refused(&rt, &[3, 233, 3, 6, 0, 4, 0], Refusal::PointsAbove(0));
+    check_refused(&rt, &[3, 232, 3, 6, 0, 233, 3], Refusal::PointsAbove(2));
+    check_refused(&rt, &[3, 0, 0, 0, 4, 255, 255], Refusal::PointsAbove(1));
     assert_eq!(rt;
         answer(&[2, 232, 3, 232, 3], 64, 1024),
         Ok(Sizes { teams: 2, games: 0 })
     );
-    Ok(())
 }
 
 #[test]
-fn games_are_two_bytes_each(rt: HostRuntime) -> Result<(), Fail> {
-    check_refused(&rt, &THREE[0..8], Refusal::GamesLength(8))?;
-    check_refused(&rt, &THREE[0..10], Refusal::GamesLength(10))
+fn games_are_two_bytes_each(rt: HostRuntime) {
+    check_refused(&rt, &THREE[0..8], Refusal::GamesLength(8));
+    check_refused(&rt, &THREE[0..10], Refusal::GamesLength(10));
 }
 
 #[test]
-fn both_teams_of_a_game_are_there(rt: HostRuntime) -> Result<(), Fail> {
+fn both_teams_of_a_game_are_there(rt: HostRuntime) {
     check_refused(
         &rt,
         &[3, 6, 0, 6, 0, 4, 0, 3, 1, 2, 0],
         Refusal::NoSuchTeam(0),
-    )?;
+    );
     check_refused(
         &rt,
         &[3, 6, 0, 6, 0, 4, 0, 0, 255, 2, 0],
         Refusal::NoSuchTeam(0),
-    )?;
+    );
     check_refused(
         &rt,
         &[3, 6, 0, 6, 0, 4, 0, 0, 1, 2, 3],
         Refusal::NoSuchTeam(1),
-    )
+    );
 }
 
 #[test]
-fn a_game_has_two_teams(rt: HostRuntime) -> Result<(), Fail> {
+fn a_game_has_two_teams(rt: HostRuntime) {
     check_refused(
         &rt,
         &[3, 6, 0, 6, 0, 4, 0, 1, 1, 2, 0],
         Refusal::AgainstItself(0),
-    )?;
+    );
     check_refused(
         &rt,
         &[3, 6, 0, 6, 0, 4, 0, 0, 1, 2, 2],
         Refusal::AgainstItself(1),
-    )
+    );
 }
 
 #[test]
@@ -146,7 +147,7 @@ fn memory_is_one_entry_short(rt: HostRuntime) {
 
 // The order of the checks: number of teams, memory, points, games, teams there, two teams.
 #[test]
-fn the_number_of_teams_is_looked_at_first(rt: HostRuntime) -> Result<(), Fail> {
+fn the_number_of_teams_is_looked_at_first(rt: HostRuntime) {
     assert_eq!(rt;
         answer(&[1, 0, 0, 0, 0], 1, 0),
         Err(Refusal::TableTeams),
@@ -157,11 +158,31 @@ fn the_number_of_teams_is_looked_at_first(rt: HostRuntime) -> Result<(), Fail> {
         Err(Refusal::TableTeams),
         "and too little memory for the points"
     );
-    check_refused(&rt, &[65, 0], Refusal::TableTeams).note("and a file that ends early")?;
-    check_refused(&rt, &[1, 233, 3], Refusal::TableTeams).note("and points above 1,000")?;
-    check_refused(&rt, &[1, 0, 0, 0], Refusal::TableTeams).note("and half a game")?;
-    check_refused(&rt, &[1, 0, 0, 0, 1], Refusal::TableTeams).note("and a team that is not there")?;
-    check_refused(&rt, &[1, 0, 0, 0, 0], Refusal::TableTeams).note("and a team against itself")
+    check_refused_first(
+        &rt,
+        &[65, 0],
+        Refusal::TableTeams,
+        "and a file that ends early",
+    );
+    check_refused_first(
+        &rt,
+        &[1, 233, 3],
+        Refusal::TableTeams,
+        "and points above 1,000",
+    );
+    check_refused_first(&rt, &[1, 0, 0, 0], Refusal::TableTeams, "and half a game");
+    check_refused_first(
+        &rt,
+        &[1, 0, 0, 0, 1],
+        Refusal::TableTeams,
+        "and a team that is not there",
+    );
+    check_refused_first(
+        &rt,
+        &[1, 0, 0, 0, 0],
+        Refusal::TableTeams,
+        "and a team against itself",
+    );
 }
 
 #[test]
@@ -217,33 +238,59 @@ fn memory_is_looked_at_next(rt: HostRuntime) {
 }
 
 #[test]
-fn points_are_looked_at_before_games(rt: HostRuntime) -> Result<(), Fail> {
-    check_refused(&rt, &[2, 233, 3], Refusal::FileEnds(3)).note(
+fn points_are_looked_at_before_games(rt: HostRuntime) {
+    check_refused_first(
+        &rt,
+        &[2, 233, 3],
+        Refusal::FileEnds(3),
         "a file that ends early, points above 1,000",
-    )?;
-    check_refused(&rt, &[2, 0, 0, 233, 3, 0], Refusal::PointsAbove(1)).note("and half a game")?;
-    check_refused(&rt, &[2, 0, 0, 233, 3, 0, 2], Refusal::PointsAbove(1)).note(
+    );
+    check_refused_first(
+        &rt,
+        &[2, 0, 0, 233, 3, 0],
+        Refusal::PointsAbove(1),
+        "and half a game",
+    );
+    check_refused_first(
+        &rt,
+        &[2, 0, 0, 233, 3, 0, 2],
+        Refusal::PointsAbove(1),
         "and a team that is not there",
-    )?;
-    check_refused(&rt, &[2, 0, 0, 233, 3, 0, 0], Refusal::PointsAbove(1)).note(
+    );
+    check_refused_first(
+        &rt,
+        &[2, 0, 0, 233, 3, 0, 0],
+        Refusal::PointsAbove(1),
         "and a team against itself",
-    )
+    );
 }
 
 #[test]
-fn games_are_looked_at_number_by_number(rt: HostRuntime) -> Result<(), Fail> {
-    check_refused(&rt, &[2, 0, 0, 0, 0, 0, 2, 0], Refusal::GamesLength(8)).note(
+fn games_are_looked_at_number_by_number(rt: HostRuntime) {
+    check_refused_first(
+        &rt,
+        &[2, 0, 0, 0, 0, 0, 2, 0],
+        Refusal::GamesLength(8),
         "half a game, a team that is not there",
-    )?;
-    check_refused(&rt, &[2, 0, 0, 0, 0, 0, 0, 0], Refusal::GamesLength(8)).note(
+    );
+    check_refused_first(
+        &rt,
+        &[2, 0, 0, 0, 0, 0, 0, 0],
+        Refusal::GamesLength(8),
         "half a game, a team against itself",
-    )?;
-    check_refused(&rt, &[2, 0, 0, 0, 0, 0, 0, 0, 2], Refusal::NoSuchTeam(1)).note(
+    );
+    check_refused_first(
+        &rt,
+        &[2, 0, 0, 0, 0, 0, 0, 0, 2],
+        Refusal::NoSuchTeam(1),
         "a team against itself in game 0",
-    )?;
-    check_refused(&rt, &[2, 0, 0, 0, 0, 2, 2], Refusal::NoSuchTeam(0)).note(
+    );
+    check_refused_first(
+        &rt,
+        &[2, 0, 0, 0, 0, 2, 2],
+        Refusal::NoSuchTeam(0),
         "the same team, and not there",
-    )
+    );
 }
 
 // Game `k` of a row of games of each of 64 teams with the next.
@@ -310,17 +357,18 @@ fn with_last(mut file: Vec<u8>, byte: u8) -> Result<Vec<u8>, Fail> {
 #[test]
 fn the_last_places_are_told(rt: HostRuntime) -> Result<(), Fail> {
     let points = with_last(full_file(&rt, 0)?, 4)?;
-    check_refused(&rt, &points, Refusal::PointsAbove(63))?;
+    check_refused(&rt, &points, Refusal::PointsAbove(63));
     let games = with_last(full_file(&rt, 1024)?, 64)?;
-    check_refused(&rt, &games, Refusal::NoSuchTeam(1023))?;
+    check_refused(&rt, &games, Refusal::NoSuchTeam(1023));
     let games = with_last(games, 63)?;
-    check_refused(&rt, &games, Refusal::AgainstItself(1023))
+    check_refused(&rt, &games, Refusal::AgainstItself(1023));
+    Ok(())
 }
 
 #[test]
 fn a_row_of_1025_games_is_too_long(rt: HostRuntime) -> Result<(), Fail> {
     let file = full_file(&rt, 1025)?;
-    check_refused(&rt, &file, Refusal::GamesLength(2179))?;
+    check_refused(&rt, &file, Refusal::GamesLength(2179));
     assert_eq!(rt;
         answer(&file, 64, 1023),
         Err(Refusal::MemoryShort(Lent::Row)),

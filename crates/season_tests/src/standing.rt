@@ -70,7 +70,7 @@ fn check_refused(
     teams: usize,
     games: usize,
     refusal: Refusal,
-) -> Result<(), Fail> {
+) {
     let mut points = [99u16; 64];
     let mut row = [OLD; 1024];
     assert_eq!(rt;
@@ -84,12 +84,11 @@ fn check_refused(
     );
     assert_eq!(rt; points, [99; 64]);
     assert_eq!(rt; row, [OLD; 1024]);
-    Ok(())
 }
 
 // 1,000 is 232 and 3 × 256.
 #[test]
-fn points_past_1000_are_refused(rt: HostRuntime) -> Result<(), Fail> {
+fn points_past_1000_are_refused(rt: HostRuntime) {
     let file = [3, 231, 3, 231, 3, 232, 3, 0, 1, 1, 2];
     check_after(
         &rt,
@@ -98,20 +97,21 @@ fn points_past_1000_are_refused(rt: HostRuntime) -> Result<(), Fail> {
         [1000, 1000, 1000],
         &[Game { host: 1, guest: 2 }],
     );
-    check_refused(&rt, &file, &[2], 3, 2, Refusal::PointsAbove(0))?;
-    check_refused(&rt, &file, &[0], 3, 2, Refusal::PointsAbove(1))?;
-    check_refused(&rt, &file, &[255, 1], 3, 2, Refusal::PointsAbove(2))?;
-    check_refused(&rt, &file, &[0, 0], 3, 2, Refusal::PointsAbove(1)).note("and 2 passes too")
+    check_refused(&rt, &file, &[2], 3, 2, Refusal::PointsAbove(0));
+    check_refused(&rt, &file, &[0], 3, 2, Refusal::PointsAbove(1));
+    check_refused(&rt, &file, &[255, 1], 3, 2, Refusal::PointsAbove(2));
+    // and 2 passes too
+    check_refused(&rt, &file, &[0, 0], 3, 2, Refusal::PointsAbove(1));
 }
 
 #[test]
-fn the_reader_refuses_first(rt: HostRuntime) -> Result<(), Fail> {
+fn the_reader_refuses_first(rt: HostRuntime) {
     let file = [2, 232, 3, 0, 0, 0, 1, 1, 1];
-    check_refused(&rt, &file, &[2], 2, 2, Refusal::AgainstItself(1)).note("and points past 1,000")?;
-    check_refused(&rt, &THREE, &[2, 2], 3, 1, Refusal::MemoryShort(Lent::Row)).note(
-        "though no game would be left",
-    )?;
-    check_refused(&rt, &THREE, &[], 2, 2, Refusal::MemoryShort(Lent::Points))
+    // and points past 1,000
+    check_refused(&rt, &file, &[2], 2, 2, Refusal::AgainstItself(1));
+    // though no game would be left
+    check_refused(&rt, &THREE, &[2, 2], 3, 1, Refusal::MemoryShort(Lent::Row));
+    check_refused(&rt, &THREE, &[], 2, 2, Refusal::MemoryShort(Lent::Points));
 }
 
 // Each team hosts 16 of the games, and wins them.
@@ -138,7 +138,7 @@ fn the_last_team_of_the_largest_table_is_told(rt: HostRuntime) -> Result<(), Fai
     let file = full_file(&rt, 1024)?;
     let mut results = vec![in rt.alloc(); 255u8; 63]?;
     results.push(2)?;
-    check_refused(&rt, &file, &results, 64, 1024, Refusal::PointsAbove(63))?;
+    check_refused(&rt, &file, &results, 64, 1024, Refusal::PointsAbove(63));
     check_refused(
         &rt,
         &file,
@@ -146,27 +146,22 @@ fn the_last_team_of_the_largest_table_is_told(rt: HostRuntime) -> Result<(), Fai
         64,
         1023,
         Refusal::MemoryShort(Lent::Row),
-    )
-}
-
-fn check_points(
-    rt: &impl Abort,
-    ending: &[u8],
-    answer: Result<Sizes, Refusal>,
-    points: [u16; 4],
-) -> Result<(), Fail> {
-    let mut now = [99u16; 4];
-    assert_eq!(rt; points_after(&THREE, ending, &mut now), answer);
-    assert_eq!(rt; now, points);
+    );
     Ok(())
 }
 
+fn check_points(rt: &impl Abort, ending: &[u8], answer: Result<Sizes, Refusal>, points: [u16; 4]) {
+    let mut now = [99u16; 4];
+    assert_eq!(rt; points_after(&THREE, ending, &mut now), answer);
+    assert_eq!(rt; now, points);
+}
+
 #[test]
-fn an_ending_gives_the_points_of_each_team(rt: HostRuntime) -> Result<(), Fail> {
+fn an_ending_gives_the_points_of_each_team(rt: HostRuntime) {
     let taken = Ok(Sizes { teams: 3, games: 2 });
-    check_points(&rt, &[2, 0], taken, [10, 6, 4, 99])?;
-    check_points(&rt, &[1, 1], taken, [8, 7, 5, 99])?;
-    check_points(&rt, &[0, 2], taken, [6, 8, 6, 99])?;
+    check_points(&rt, &[2, 0], taken, [10, 6, 4, 99]);
+    check_points(&rt, &[1, 1], taken, [8, 7, 5, 99]);
+    check_points(&rt, &[0, 2], taken, [6, 8, 6, 99]);
     let mut now = [0u16; 2];
     let file = [2, 232, 3, 232, 3, 0, 1];
     assert_eq!(rt;
@@ -174,25 +169,22 @@ fn an_ending_gives_the_points_of_each_team(rt: HostRuntime) -> Result<(), Fail> 
         Ok(Sizes { teams: 2, games: 1 })
     );
     assert_eq!(rt; now, [1002, 1000], "an ending may pass 1,000");
-    Ok(())
 }
 
 #[test]
-fn bytes_that_are_no_ending_are_refused(rt: HostRuntime) -> Result<(), Fail> {
+fn bytes_that_are_no_ending_are_refused(rt: HostRuntime) {
     let old = [99; 4];
-    check_points(&rt, &[2], Err(Refusal::AuditEnding(1)), old)?;
-    check_points(&rt, &[2, 0, 0], Err(Refusal::AuditEnding(3)), old)?;
-    check_points(&rt, &[2, 3], Err(Refusal::AuditEnding(1)), old)?;
-    check_points(&rt, &[3, 3, 3], Err(Refusal::AuditEnding(3)), old).note(
-        "its length comes first",
-    )?;
+    check_points(&rt, &[2], Err(Refusal::AuditEnding(1)), old);
+    check_points(&rt, &[2, 0, 0], Err(Refusal::AuditEnding(3)), old);
+    check_points(&rt, &[2, 3], Err(Refusal::AuditEnding(1)), old);
+    // its length comes first
+    check_points(&rt, &[3, 3, 3], Err(Refusal::AuditEnding(3)), old);
     let mut short = [99u16; 2];
     assert_eq!(rt;
         points_after(&THREE, &[2], &mut short),
         Err(Refusal::MemoryShort(Lent::Points))
     );
     assert_eq!(rt; short, [99; 2]);
-    Ok(())
 }
 
 #[test]
