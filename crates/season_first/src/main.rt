@@ -8,6 +8,7 @@ ghost use Rattle.season.specs.Refused.{is_given};
 use season::game::Game;
 use season::table::read_table;
 use std::io::Read;
+use std::process::ExitCode;
 use std::{env, fs, io};
 
 const USAGE: &str = "\
@@ -95,11 +96,11 @@ fn read_input(rt: &HostRuntime) -> io::Result<Vec<u8>> {
     Ok(file)
 }
 
-fn main(rt: HostRuntime) -> io::Result<()> {
-    match read_words(&rt) {
+fn run(rt: &HostRuntime) -> io::Result<()> {
+    match read_words(rt) {
         Ok(Asked::Help) => println!(rt; "{USAGE}"),
-        Ok(Asked::Input) => go_on(&rt, "standard input", read_input(&rt)),
-        Ok(Asked::File(path)) => go_on(&rt, path.as_str(), fs::read(&rt, path.as_str())),
+        Ok(Asked::Input) => go_on(rt, "standard input", read_input(rt)),
+        Ok(Asked::File(path)) => go_on(rt, path.as_str(), fs::read(rt, path.as_str())),
         Ok(Asked::Unclear(why)) => {
             eprintln!(rt; "season_first: {why}\n\n{USAGE}")?;
             stop()
@@ -108,5 +109,13 @@ fn main(rt: HostRuntime) -> io::Result<()> {
             eprintln!(rt; "season_first: the words of the call cannot be read: {why}")?;
             stop()
         }
+    }
+}
+
+// What is turned away or went wrong has been told of by then.
+fn main(rt: HostRuntime) -> ExitCode {
+    match run(&rt) {
+        Ok(()) => ExitCode::SUCCESS,
+        Err(_) => ExitCode::FAILURE,
     }
 }

@@ -11,6 +11,7 @@ use planner::circle::write_plan;
 use season::game::game_in;
 use season::plan::round_in;
 use std::alloc::Global;
+use std::process::ExitCode;
 use std::{env, io};
 
 const USAGE: &str = "\
@@ -144,10 +145,10 @@ fn tell(rt: &HostRuntime, n: usize) -> io::Result<()>
     }
 }
 
-fn main(rt: HostRuntime) -> io::Result<()> {
-    match read_words(&rt) {
+fn run(rt: &HostRuntime) -> io::Result<()> {
+    match read_words(rt) {
         Ok(Asked::Help) => println!(rt; "{USAGE}"),
-        Ok(Asked::Teams(n)) => tell(&rt, n),
+        Ok(Asked::Teams(n)) => tell(rt, n),
         Ok(Asked::Unclear(why)) => {
             eprintln!(rt; "season_plan: {why}\n\n{USAGE}")?;
             stop()
@@ -156,5 +157,13 @@ fn main(rt: HostRuntime) -> io::Result<()> {
             eprintln!(rt; "season_plan: the words of the call cannot be read: {why}")?;
             stop()
         }
+    }
+}
+
+// What is turned away or went wrong has been told of by then.
+fn main(rt: HostRuntime) -> ExitCode {
+    match run(&rt) {
+        Ok(()) => ExitCode::SUCCESS,
+        Err(_) => ExitCode::FAILURE,
     }
 }

@@ -1,4 +1,4 @@
-use Rattle.std.proofs.Common.{◌<◌, ◌≤◌, ℕ, get_or, length, arith}
+use Rattle.std.proofs.Common.{ℕ, arith}
 use Rattle.season.proofs.Exact.{exact, held}
 use Rattle.season.proofs.table.read_table.Goals as goal
 
