@@ -160,7 +160,8 @@ fn run(rt: &HostRuntime) -> io::Result<()> {
     }
 }
 
-// What is turned away or went wrong has been told of by then.
+// It prints nothing itself: a refusal, wrong usage and what cannot be read have been told of by then. Of a failed write, or of memory
+// that has run out, only the status tells.
 fn main(rt: HostRuntime) -> ExitCode {
     match run(&rt) {
         Ok(()) => ExitCode::SUCCESS,
