@@ -1,5 +1,6 @@
 -- Lemmas of the planner.
 pub mod Begins
+pub mod Below
 pub mod Best
 pub mod CircleBreaks
 pub mod Circles

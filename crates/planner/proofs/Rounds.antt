@@ -1,16 +1,13 @@
 -- A round as a part of the plan's bytes.
-use Rattle.std.proofs.Common.{◌≡◌, ℕ, ◌+◌, ◌-◌, ◌*◌, ◌/◌, ◌%◌, ◌<◌, ◌≤◌, List, refl, mul-le-mul_right, add-mul, arith}
+use Rattle.std.proofs.Common.{◌≡◌, ℕ, ◌+◌, ◌-◌, ◌*◌, ◌/◌, ◌%◌, ◌<◌, ◌≤◌, List, ◌++◌, take, drop, refl, mul-le-mul_right, add-mul, arith}
 use lib.Arith.{digits_div, digits_mod}
 use Rattle.season.proofs.Written.{written_part}
 use Rattle.season.specs.Rows.{written}
-use Rattle.planner.specs.Circle.{Fitting, game_of, round_byte, plan_byte, plan_length, with_round}
+use Rattle.planner.specs.Circle.{game_of, round_byte, plan_byte, plan_length, round_bytes}
 
--- rounds start and end within the plan's bytes
+-- rounds start and end within the plan
 pub round_inside : (n r : ℕ) → r < n → r * n ≤ plan_length n
 round_inside n r l = let h : r ≤ n - 1 = omega arith in mul-le-mul_right n h
-
-pub round_within : {n bytes : ℕ} → Fitting n bytes → (r : ℕ) → r < n → r * n ≤ bytes
-round_within {n} fitting r l = omega (arith, round_inside n r l, fitting.room)
 
 -- the bytes of game k
 module _ (n r k : ℕ) where
@@ -36,8 +33,9 @@ byte_in_round n r p l = rw (digits_div r l, digits_mod r l) refl
 pub next_round : (n r : ℕ) → (r + 1) * n ≡ r * n + n
 next_round n r = omega (arith, add-mul r 1 n)
 
+-- the plan's bytes with one round more
 pub written_round :
     (n r : ℕ) (old bytes : List ℕ) → bytes ≡ written (plan_byte n) (r * n) old →
-    with_round n r bytes ≡ written (plan_byte n) ((r + 1) * n) old
+    take (r * n) bytes ++ (round_bytes n r ++ drop (r * n + n) bytes) ≡ written (plan_byte n) ((r + 1) * n) old
 written_round n r old bytes e =
     rw (next_round n r) (written_part (plan_byte n) (round_byte n r) (r * n) n old bytes (byte_in_round n r) e)

@@ -1,5 +1,5 @@
 -- The plan by circles as bytes, and what the planner answers.
-use Rattle.std.specs.Prelude.{◌≡◌, ℕ, ◌+◌, ◌-◌, ◌*◌, ◌/◌, ◌%◌, ◌<◌, ◌≤◌, Bool, true, false, List, ◌++◌, map, take, drop, ◌==◌, nat_lt}
+use Rattle.std.specs.Prelude.{◌≡◌, ℕ, ◌+◌, ◌-◌, ◌*◌, ◌/◌, ◌%◌, ◌<◌, ◌≤◌, Bool, true, false, List, map, ◌==◌, nat_lt}
 use Rattle.std.specs.List.{range_with_len}
 use Rattle.season.specs.declared.game.Game.{Game}
 use Rattle.season.specs.Plan.{pick, rest, unplanned}
@@ -42,10 +42,6 @@ plan_bytes n = map (plan_byte n) (range_with_len 0 (plan_length n))
 -- memory with the plan written at its front, and after that what stood there
 abbrev pub with_plan : ℕ → List ℕ → List ℕ
 with_plan n old = written (plan_byte n) (plan_length n) old
-
--- memory with round r of the plan written over its part of it
-abbrev pub with_round : ℕ → ℕ → List ℕ → List ℕ
-with_round n r old = take (r * n) old ++ (round_bytes n r ++ drop (r * n + n) old)
 
 -- n teams for which a plan is made, and so many bytes that they hold it
 pub record Fitting (n bytes : ℕ) : Type 0 where

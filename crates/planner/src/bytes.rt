@@ -7,11 +7,30 @@ ghost use Rattle.season.specs.Refused.{told, given};
 use season::plan::plan_teams;
 use season::refusal::{Lent, Refusal};
 
+// Bytes that hold a plan for so many teams, whatever they are, and what follows it.
+#[derive(Clone, Copy)]
+pub(crate) struct PlanBytes<'a> {
+    pub(crate) teams: usize,
+    pub(crate) bytes: &'a [u8],
+    ghost fitting: { Fitting teams (length bytes.now) },
+}
+
+impl<'a> PlanBytes<'a> {
+    // Round `r`, as a part of the plan's bytes.
+    pub(crate) fn round(&self, r: usize) -> &'a [u8]
+        requires { r < self.now.teams - 1 }
+        ensures { result.now ≡ round_at self.now.bytes.now self.now.teams r }
+    {
+        &self.bytes[r * self.teams..(r + 1) * self.teams]
+    }
+}
+
 // The number of teams, if a plan is made for so many and `bytes` bytes hold it.
 pub(crate) fn check_plan(n: usize, bytes: usize) -> Result<usize, Refusal>
     ensures answer { told result ≡ unless_unfit n bytes (given n) }
     ensures fitting { IfOk result (λ teams. (teams ≡ n) × Fitting n bytes) }
 {
+    // In a list of checks each hands on what it answers, or its refusal, by `let .. else`, since what is told depends on the order.
     let checked = plan_teams(n);
     let Ok(teams) = checked else {
         return checked;
@@ -20,12 +39,4 @@ pub(crate) fn check_plan(n: usize, bytes: usize) -> Result<usize, Refusal>
         return Err(Refusal::MemoryShort(Lent::Row));
     }
     Ok(teams)
-}
-
-// Round `r`, as a part of the plan's bytes.
-pub(crate) fn round_of(n: usize, plan: &[u8], r: usize) -> &[u8]
-    requires { Fitting n (length plan.now) × (r < n - 1) }
-    ensures { result.now ≡ round_at plan.now n r }
-{
-    &plan[r * n..(r + 1) * n]
 }

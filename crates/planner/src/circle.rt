@@ -1,29 +1,24 @@
 // The plan by circles, written into lent memory round by round.
-ghost use Rattle.std.specs.Prelude.{◌≡◌, ◌+◌, ◌-◌, ◌/◌, ◌%◌, ◌<◌, ◌≤◌, length, IfOk, OnOk};
-ghost use Rattle.planner.specs.Circle.{Fitting, game_of, meeting, plan_after, round_bytes, unless_unfit, with_plan, with_round};
+ghost use Rattle.std.specs.Prelude.{◌≡◌, ◌-◌, ◌/◌, ◌%◌, ◌<◌, ◌≤◌, pos, length, IfOk, OnOk};
+ghost use Rattle.std.specs.Int.{int_rem_euclid};
+ghost use Rattle.planner.specs.Circle.{Fitting, game_of, meeting, plan_after, round_byte, round_bytes, unless_unfit, with_plan};
 ghost use Rattle.season.specs.Bytes.{plan_of};
-ghost use Rattle.season.specs.Plan.{Agree, BestPlan, breaks, circle, rest};
+ghost use Rattle.season.specs.Plan.{Agree, BestPlan, breaks, circle};
 ghost use Rattle.season.specs.Refused.{told, given};
 
-use crate::breaks::breaks_in;
-use crate::bytes::check_plan;
+use crate::bytes::{PlanBytes, check_plan};
 use season::game::Game;
 use season::refusal::Refusal;
+use season::rows::write_front;
 
-// The team `k` places ahead of `r` on the circle of `m` teams.
-fn team_ahead(m: usize, r: usize, k: usize) -> u8
-    requires { (m ≤ 64) × (r < m) × (k < m) }
-    ensures { result ≡ rest m (r + k) }
-{
-    (r as i32 + k as i32).rem_euclid(m as i32) as u8
-}
-
-// The team `k` places behind `r` on the circle of `m` teams.
-fn team_behind(m: usize, r: usize, k: usize) -> u8
-    requires { (m ≤ 64) × (r < m) × (k < m) }
-    ensures { result ≡ rest m (r + m - k) }
-{
-    (r as i32 - k as i32).rem_euclid(m as i32) as u8
+// A round of the plan by circles for so many teams, by its number.
+#[derive(Clone, Copy)]
+struct CircleRound {
+    teams: usize,
+    number: usize,
+    ghost even_teams: { teams % 2 ≡ 0 },
+    ghost few_teams: { teams ≤ 64 },
+    ghost there: { number < teams - 1 },
 }
 
 // The game of two teams, the first at home or the second.
@@ -37,46 +32,59 @@ fn meeting(first_home: bool, a: u8, b: u8) -> Game
     }
 }
 
-// Game `k` of round `r`.
-fn game_of(n: usize, r: usize, k: usize) -> Game
-    requires { (n ≤ 64) × (r < n - 1) × (k < n / 2) }
-    ensures { result ≡ game_of n r k }
-{
-    let m = n - 1;
-    if k == 0 {
-        meeting(r % 2 == 0, m as u8, r as u8)
-    } else {
-        meeting(k % 2 == 1, team_ahead(m, r, k), team_behind(m, r, k))
+impl CircleRound {
+    // The team at a place of the circle, on which all teams but the last stand; below 0 it is counted back from the end.
+    fn team_at(&self, place: i32) -> u8
+        ensures { pos result ≡ int_rem_euclid place (pos (self.now.teams - 1)) }
+    {
+        // No cast loses anything, here and below: there are at most 64 teams.
+        place.rem_euclid((self.teams - 1) as i32) as u8
     }
-}
 
-// Writes the games of round `r` into its part of the plan's bytes.
-fn write_games(n: usize, r: usize, round: &mut [u8])
-    requires { (n ≤ 64) × (n % 2 ≡ 0) × (r < n - 1) × (length round.old ≡ n) }
-    ensures { round.new ≡ round_bytes n r }
-{
-    for k in 0..n / 2 {
-        let game = game_of(n, r, k);
-        round[2 * k] = game.host;
-        round[2 * k + 1] = game.guest;
+    // Game `k` of the round.
+    fn game(&self, k: usize) -> Game
+        requires { k < self.now.teams / 2 }
+        ensures { result ≡ game_of self.now.teams self.now.number k }
+    {
+        if k == 0 {
+            let last = self.teams - 1;
+            return meeting(self.number % 2 == 0, last as u8, self.number as u8);
+        }
+        let own = self.number as i32;
+        let apart = k as i32;
+        let ahead = self.team_at(own + apart);
+        let behind = self.team_at(own - apart);
+        meeting(k % 2 == 1, ahead, behind)
     }
-}
 
-// Writes round `r` of the plan, and leaves the bytes before and after it as they were.
-fn write_round(n: usize, r: usize, plan: &mut [u8])
-    requires { Fitting n (length plan.old) × (r < n - 1) }
-    ensures { plan.new ≡ with_round n r plan.old }
-{
-    write_games(n, r, &mut plan[r * n..(r + 1) * n]);
+    // Byte `p` of the round: the host of a game at an even place, the guest at an odd one.
+    fn byte(&self, p: usize) -> u8
+        requires { p < self.now.teams }
+        ensures { result ≡ round_byte self.now.teams self.now.number p }
+    {
+        let game = self.game(p / 2);
+        if p % 2 == 0 { game.host } else { game.guest }
+    }
+
+    // Writes the games of the round into its part of the plan's bytes.
+    fn write(&self, round: &mut [u8])
+        requires { length round.old ≡ self.now.teams }
+        ensures { round.new ≡ round_bytes self.now.teams self.now.number }
+    {
+        write_front(round, self.teams, |p| self.byte(p));
+    }
 }
 
 // Writes all rounds, and leaves what follows them as it was.
-fn write_rounds(n: usize, plan: &mut [u8])
-    requires { Fitting n (length plan.old) }
-    ensures { plan.new ≡ with_plan n plan.old }
+fn write_rounds(teams: usize, plan: &mut [u8])
+    requires { Fitting teams (length plan.old) }
+    ensures { plan.new ≡ with_plan teams plan.old }
 {
-    for r in 0..n - 1 {
-        write_round(n, r, plan);
+    // Each round is handed on as the part of the bytes that it is, cut by its place: of the parts that `chunks_exact_mut` cuts, the
+    // library does not say what they end as.
+    for number in 0..teams - 1 {
+        let round = CircleRound { teams, number };
+        round.write(&mut plan[number * teams..(number + 1) * teams]);
     }
 }
 
@@ -88,10 +96,7 @@ pub fn write_plan(n: usize, plan: &mut [u8]) -> Result<usize, Refusal>
     ensures counted { IfOk result (λ b. b ≡ breaks n (plan_of n plan.new)) }
     ensures best { OnOk result (BestPlan n (plan_of n plan.new)) }
 {
-    let checked = check_plan(n, plan.len());
-    let Ok(teams) = checked else {
-        return checked;
-    };
+    let teams = check_plan(n, plan.len())?;
     write_rounds(teams, plan);
-    Ok(breaks_in(teams, plan))
+    Ok(PlanBytes { teams, bytes: plan }.breaks())
 }

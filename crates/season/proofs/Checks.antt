@@ -1,8 +1,8 @@
 -- One check of a list: what is known where it is passed, and that it is passed where it does not apply.
-use Rattle.std.proofs.Common.{◌≡◌, ℕ, ◌<◌, Bool, true, false, ltb, sym, refl, arith}
+use Rattle.std.proofs.Common.{◌≡◌, ℕ, ◌<◌, Bool, true, false, ltb, refl, arith}
 use Rattle.std.proofs.lemmas.Bool.{le-ltb, ltb-false, cond-false}
 use Rattle.season.specs.Reading.{unless_at}
-use Rattle.season.specs.Refused.{Told, and_then, given, refused, unless}
+use Rattle.season.specs.Refused.{Told, given, refused, unless}
 use Rattle.season.specs.Rows.{first}
 use Rattle.season.proofs.First.{first_none, none_before}
 
@@ -29,10 +29,3 @@ module _ {A : Type 0} where
   pass_at p n number after none =
       let end = first_none p 0 n (λ j low high. none j (omega arith)) in
       pass (ltb (first p 0 n) n) number (first p 0 n) after (le-ltb (first p 0 n) n (omega arith))
-
--- what a check tells that was passed, handing on something else
-pub handed_on :
-    {A B : Type 0} (o : Told A) (b : A → Bool) (number place : ℕ) (z : A) (x : B) →
-    given z ≡ and_then o (λ s. unless (b s) number place (given s)) → and_then o (λ s. unless (b s) number place (given x)) ≡ given x
-handed_on (given a) b number place z x e = pass (b a) number place (given x) (passed (b a) number place (given a) z (sym e)).0
-handed_on (refused n p) b number place z x e = let no_way : ◌≡◌ {A = ℕ} 0 1 = cc in absurd (omega arith)

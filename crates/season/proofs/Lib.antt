@@ -1,6 +1,7 @@
 -- Lemmas of the season.
 pub mod Agreement
 pub mod Checks
+pub mod Chunks
 pub mod Encodes
 pub mod Exact
 pub mod First

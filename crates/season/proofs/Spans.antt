@@ -1,12 +1,8 @@
 -- Sums of numbers below a bound.
-use Rattle.std.proofs.Common.{◌≡◌, ℕ, zero, suc, ◌+◌, ◌<◌, ◌≤◌, eqb, ltb, ◌≢◌, refl, inl, inr, add-one, arith}
+use Rattle.std.proofs.Common.{◌≡◌, ℕ, zero, suc, ◌+◌, ◌<◌, ◌≤◌, eqb, ltb, ◌≢◌, refl, inl, inr, arith}
 use Rattle.std.proofs.lemmas.Bool.{cases_eq}
 use Rattle.std.proofs.lemmas.Bool.Decides.{nat_tests}
 use Rattle.season.specs.Plan.{pick, span}
-
-pub span_more : (f : ℕ → ℕ) (k : ℕ) → span f (k + 1) ≡ f k + span f k
-unfolding span
-span_more f k = rw add-one refl
 
 pub span_same : (f g : ℕ → ℕ) (n : ℕ) → ((k : ℕ) → k < n → f k ≡ g k) → span f n ≡ span g n
 unfolding span

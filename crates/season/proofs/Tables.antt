@@ -83,4 +83,5 @@ pub same_read : (file old : List ℕ) (older : List Game) → Same (table_in fil
 same_read file old older =
     let g = game_at (games_of file) in
     let m = (sizes_in file).games in
-    same_rows (table_in file) (map g (range_with_len 0 m)) m old older (length-map-range_with_len g 0 m) (map-map match_of g (range_with_len 0 m))
+    same_rows (table_in file) (map g (range_with_len 0 m)) m old older (length-map-range_with_len g 0 m)
+    (map-map match_of g (range_with_len 0 m))

@@ -1,8 +1,9 @@
 -- A loop that writes f k at each place k, one place or one part a turn: what was written, then what stood there.
-use Rattle.std.proofs.Common.{◌≡◌, ℕ, zero, suc, ◌+◌, ◌<◌, List, [], ◌∷◌, ◌++◌, map, length, get_or, take, drop, set, sym, refl, ap, ◌∙◌, append_assoc, add-zero, add-one, arith}
+use Rattle.std.proofs.Common.{◌≡◌, ℕ, zero, suc, ◌+◌, ◌<◌, ◌≤◌, List, [], ◌∷◌, ◌++◌, map, length, get_or, take, drop, set, sym, refl, ap, ◌∙◌, append_assoc, add-zero, add-one, arith}
 use Rattle.std.specs.List.{range_with_len}
 use Rattle.std.proofs.lemmas.List.FromFn.{length-map-range_with_len, map-range_with_len_more}
-use Rattle.std.proofs.lemmas.List.{append-nil, take_at, drop_at, drop-drop}
+use Rattle.std.proofs.lemmas.List.{append-nil, take_at, drop_at, drop-drop, length-take}
+use Rattle.std.proofs.Math.ListN.{drop_of_length-le}
 use Rattle.season.proofs.Fronts.{front_more, past_front}
 use Rattle.season.specs.Rows.{written}
 
@@ -41,3 +42,11 @@ module _ {X : Type 0} (f g : ℕ → X) (a : ℕ) where
       let front = take_at (map f (range_with_len 0 a)) (drop a old) a (length-map-range_with_len f 0 a) in
       let after = drop_at (map f (range_with_len 0 a)) (drop a old) a (length-map-range_with_len f 0 a) in
       rw (e, front, map_counting_part n same, append_assoc, ← drop-drop n a (written f a old), after, drop-drop) refl
+
+-- what was written over the front alone, before the rest
+pub written_front :
+    {X : Type 0} (f : ℕ → X) (n : ℕ) (old front : List X) → front ≡ written f n (take n old) → front ++ drop n old ≡ written f n old
+written_front f n old front e =
+    let short : length (take n old) ≤ n = rw length-take (omega arith) in
+    let past = drop_of_length-le (take n old) short in
+    rw (e, past, append-nil) refl

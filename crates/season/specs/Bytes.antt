@@ -1,5 +1,5 @@
 -- What rows of bytes mean: a plan and its rounds, a game, a number of two bytes.
-use Rattle.std.specs.Prelude.{ℕ, ◌+◌, ◌-◌, ◌*◌, ◌%◌, Bool, List, length, take, drop, ◌==◌, nat_eq, slice_index}
+use Rattle.std.specs.Prelude.{ℕ, ◌+◌, ◌-◌, ◌*◌, ◌%◌, Bool, List, ◌++◌, length, take, drop, ◌==◌, nat_eq, slice_index, codes, decimal}
 use Rattle.season.specs.declared.game.Game.{Game}
 use Rattle.season.specs.Plan.{Plan, pick}
 use Rattle.season.specs.Rows.{first}
@@ -30,6 +30,10 @@ plan_of n plan = record {
 -- the game at place k of a row of games, host and guest, one byte each
 abbrev pub game_at : List ℕ → ℕ → Game
 game_at bytes k = record { host = slice_index bytes (2 * k); guest = slice_index bytes (2 * k + 1) }
+
+-- a game as text, as `3-0`
+abbrev pub game_text : Game → List ℕ
+game_text game = decimal game.host ++ (codes "-" ++ decimal game.guest)
 
 -- the number at place k of a row of numbers, two bytes each, the low one first
 abbrev pub number_at : List ℕ → ℕ → ℕ

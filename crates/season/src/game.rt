@@ -1,6 +1,8 @@
 // Games, as rows of bytes have them: host and guest, one byte each.
-ghost use Rattle.std.specs.Prelude.{◌≡◌, ◌/◌, ◌<◌, length, if◌then◌else◌, Some, None, nat_lt};
-ghost use Rattle.season.specs.Bytes.{game_at};
+ghost use Rattle.std.specs.Prelude.{◌≡◌, ◌/◌, length, if◌then◌else◌, Some, None, nat_lt};
+ghost use Rattle.season.specs.Bytes.{game_at, game_text};
+
+use std::fmt;
 
 // A game of two teams, by their numbers.
 #[derive(Clone, Copy, PartialEq, Eq, Debug)]
@@ -9,14 +11,22 @@ pub struct Game {
     pub guest: u8,
 }
 
-// The game at place `k`, which the row has.
-pub(crate) fn whole_game(row: &[u8], k: usize) -> Game
-    requires { k < length row.now / 2 }
-    ensures { result ≡ game_at row.now k }
-{
-    Game {
-        host: row[2 * k],
-        guest: row[2 * k + 1],
+// The game that two bytes name, the host first.
+impl From<[u8; 2]> for Game {
+    ghost from_gives = { λ pair game. game ≡ game_at pair 0 };
+
+    fn from([host, guest]: [u8; 2]) -> Game {
+        Game { host, guest }
+    }
+}
+
+impl fmt::Display for Game {
+    ghost output = { λ game. Some (game_text game) };
+
+    fn fmt<W: fmt::Write>(&self, f: &mut fmt::Formatter<W>) -> fmt::Result {
+        let host = self.host;
+        let guest = self.guest;
+        write!(f, "{host}-{guest}")
     }
 }
 
@@ -24,9 +34,7 @@ pub(crate) fn whole_game(row: &[u8], k: usize) -> Game
 pub fn game_in(row: &[u8], k: usize) -> Option<Game>
     ensures { result ≡ (if nat_lt k (length row.now / 2) then Some (game_at row.now k) else None) }
 {
-    if k < row.len() / 2 {
-        Some(whole_game(row, k))
-    } else {
-        None
-    }
+    let (pairs, _) = row.as_chunks::<2>();
+    let pair = pairs.get(k)?;
+    Some(Game::from(*pair))
 }

@@ -5,4 +5,5 @@ pub mod game;
 pub mod laws;
 pub mod plan;
 pub mod refusal;
+pub mod rows;
 pub mod table;

@@ -6,13 +6,14 @@ ghost use Rattle.season.specs.Refused.{told, given, unless};
 
 use crate::refusal::Refusal;
 
+// The most teams that a plan or a table may have.
 pub const MOST_TEAMS: usize = 64;
 
 // The number of teams, if a plan can be made for so many: an even number from 2 to 64.
 pub fn plan_teams(n: usize) -> Result<usize, Refusal>
     ensures { told result ≡ unless (unplanned n) 1 0 (given n) }
 {
-    if n % 2 == 1 || n == 0 || n > MOST_TEAMS {
+    if n % 2 == 1 || !(2..=MOST_TEAMS).contains(&n) {
         return Err(Refusal::PlanTeams);
     }
     Ok(n)
@@ -24,9 +25,5 @@ pub fn round_in(plan: &[u8], n: usize, r: usize) -> Option<&[u8]>
     ensures bytes { IfSome result (λ x. x.now ≡ round_at plan.now n r) }
 {
     let start = r.checked_mul(n)?;
-    let end = start.checked_add(n)?;
-    if end > plan.len() {
-        return None;
-    }
-    Some(&plan[start..end])
+    plan.get(start..start.checked_add(n)?)
 }

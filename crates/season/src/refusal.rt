@@ -39,7 +39,7 @@ pub enum Refusal {
 }
 
 impl Refusal {
-    // The number of the rule that applies, 1 to 10.
+    // The number of the rule that applies, 1 to 10, by which a league office finds it in the list of rules.
     pub fn number(self) -> u8
         ensures { result ≡ number_of self }
     {

@@ -1,16 +1,19 @@
 // Reads a table's file, and says what it holds.
 #![tactic(auto)]
 
-ghost use Rattle.std.specs.Prelude.{◌≡◌, true, false, is_ok, MatchResult};
+ghost use Rattle.std.specs.Prelude.{◌≡◌, true, MatchResult};
+ghost use Rattle.call.specs.Call.{Fails, OnSuccess};
 ghost use Rattle.season.specs.Reading.{outcome};
 ghost use Rattle.season.specs.Refused.{is_given};
 
+use call::{Asked, Program, refuse};
 use season::game::Game;
-use season::table::read_table;
+use season::table::{Sizes, read_table};
 use std::io::Read;
 use std::process::ExitCode;
-use std::{env, fs, io};
+use std::{fs, io};
 
+// What the program says of how it is called.
 const USAGE: &str = "\
 usage: season_first [FILE]
 
@@ -21,102 +24,64 @@ Prints `refused NUMBER at PLACE` for a file that breaks a rule, and ends with st
 
 example: season_first table.bin";
 
-// The most teams and games that this program has memory for.
+// The program, as its calls are answered.
+const PROGRAM: Program = Program {
+    name: "season_first",
+    usage: USAGE,
+};
+
+// The most teams that this program has memory for.
 const TEAMS: usize = 32;
 
+// The most games that it has memory for.
 const GAMES: usize = 256;
 
-// What the words of the call ask for.
-#[derive(Drop)]
-enum Asked {
-    Help,
-    Input,
-    File(String),
-    Unclear(String),
-}
-
-fn read_words(rt: &HostRuntime) -> io::Result<Asked> {
-    let mut words = env::args(rt)?.skip(1);
-    let Some(word) = words.next() else {
-        return Ok(Asked::Input);
-    };
-    if let Some(more) = words.next() {
-        return Ok(Asked::Unclear(format!(in rt.alloc();
-            "one file is expected, and `{more}` is too much"
-        )?));
-    }
-    if word.as_str() == "--help" || word.as_str() == "-h" {
-        return Ok(Asked::Help);
-    }
-    Ok(Asked::File(word))
-}
-
-// Ends the program with status 1, once it has said why.
-fn stop() -> io::Result<()>
-    ensures { is_ok result ≡ false }
-{
-    Err(io::Error::from(io::ErrorKind::InvalidInput))
-}
-
 // Prints what the file holds, or the refusal. It ends well only if the file is taken.
-fn tell(rt: &HostRuntime, file: &[u8]) -> io::Result<()>
-    ensures { is_ok result ≡ true → is_given (outcome file.now 256 32) ≡ true }
+fn tell(rt: &HostRuntime, file: &[u8]) -> io::Result<ExitCode>
+    ensures { OnSuccess result (is_given (outcome file.now 256 32) ≡ true) }
 {
     let mut points = [0u16; TEAMS];
     let mut row = [Game { host: 0, guest: 0 }; GAMES];
     match read_table(file, &mut points, &mut row) {
-        Ok(sizes) => {
-            let teams = sizes.teams;
-            let games = sizes.games;
-            println!(rt; "teams {teams}, games left {games}")
+        Ok(Sizes { teams, games }) => {
+            println!(rt; "teams {teams}, games left {games}")?;
+            Ok(ExitCode::SUCCESS)
         }
-        Err(refusal) => {
-            println!(rt; "{refusal}")?;
-            stop()
-        }
+        Err(refusal) => refuse(rt, refusal),
     }
 }
 
 // Tells of the file that was read, or says that it could not be. It ends well only if it was read, and is taken.
-fn go_on(rt: &HostRuntime, name: &str, read: io::Result<Vec<u8>>) -> io::Result<()>
-    ensures { MatchResult read (λ v. is_ok result ≡ true → is_given (outcome v.items 256 32) ≡ true) (λ _. is_ok result ≡ false) }
+fn go_on(rt: &HostRuntime, name: &str, read: io::Result<Vec<u8>>) -> io::Result<ExitCode>
+    ensures { MatchResult read (λ v. OnSuccess result (is_given (outcome v.items 256 32) ≡ true)) (λ _. Fails result) }
 {
     match read {
         Ok(file) => tell(rt, &file),
-        Err(why) => {
-            eprintln!(rt; "season_first: {name}: {why}")?;
-            stop()
-        }
+        Err(why) => PROGRAM.fail(rt, format_args!("{name}: {why}")),
     }
 }
 
+// Reads all of standard input.
 fn read_input(rt: &HostRuntime) -> io::Result<Vec<u8>> {
     let mut file = Vec::new(rt.alloc());
     rt.stdin().read_to_end(&mut file)?;
     Ok(file)
 }
 
-fn run(rt: &HostRuntime) -> io::Result<()> {
-    match read_words(rt) {
-        Ok(Asked::Help) => println!(rt; "{USAGE}"),
-        Ok(Asked::Input) => go_on(rt, "standard input", read_input(rt)),
-        Ok(Asked::File(path)) => go_on(rt, path.as_str(), fs::read(rt, path.as_str())),
-        Ok(Asked::Unclear(why)) => {
-            eprintln!(rt; "season_first: {why}\n\n{USAGE}")?;
-            stop()
-        }
-        Err(why) => {
-            eprintln!(rt; "season_first: the words of the call cannot be read: {why}")?;
-            stop()
-        }
+// Reads the file of this name and tells of it, or of standard input where none is named.
+fn tell_file(rt: &HostRuntime, path: Option<String>) -> io::Result<ExitCode> {
+    match path {
+        Some(path) => go_on(rt, path.as_str(), fs::read(rt, path.as_str())),
+        None => go_on(rt, "standard input", read_input(rt)),
     }
 }
 
-// It prints nothing itself: a refusal, wrong usage and what cannot be read have been told of by then. Of a failed write, or of memory
-// that has run out, only the status tells.
+// Tells of the file that the one word names, or of standard input, or says how the program is called.
 fn main(rt: HostRuntime) -> ExitCode {
-    match run(&rt) {
-        Ok(()) => ExitCode::SUCCESS,
-        Err(_) => ExitCode::FAILURE,
-    }
+    PROGRAM.run(
+        &rt,
+        "one file",
+        |path| Ok(Asked::For(path)),
+        |path| tell_file(&rt, path),
+    )
 }

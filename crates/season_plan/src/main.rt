@@ -1,19 +1,22 @@
 // Prints the plan for a number of teams, with the fewest breaks there can be.
 #![tactic(auto)]
 
-ghost use Rattle.std.specs.Prelude.{◌≡◌, ◌<◌, true, false, is_ok, Decides};
+ghost use Rattle.std.specs.Prelude.{◌≡◌, ◌/◌, ◌<◌, length, true, Decides, IfOk, string_bytes};
+ghost use Rattle.call.specs.Call.{OnSuccess};
 ghost use Rattle.planner.specs.Circle.{plan_length, unless_unfit};
 ghost use Rattle.season.specs.Refused.{given, is_given};
-ghost use Rattle.season_plan.specs.Words.{Numbered};
+ghost use Rattle.season_plan.specs.Lines.{line_of};
+ghost use Rattle.season_plan.specs.Words.{AsksFor, Numbered, teams_of};
 ghost use Rattle.std.specs.Str.Parse.{IsNumeral, without_leading_plus};
 
+use call::{Asked, Program, refuse};
 use planner::circle::write_plan;
-use season::game::game_in;
-use season::plan::round_in;
+use season::game::Game;
 use std::alloc::Global;
+use std::io;
 use std::process::ExitCode;
-use std::{env, io};
 
+// What the program says of how it is called.
 const USAGE: &str = "\
 usage: season_plan TEAMS
 
@@ -25,39 +28,22 @@ no memory, and ends with status 1.
 
 example: season_plan 20";
 
+// The program, as its calls are answered.
+const PROGRAM: Program = Program {
+    name: "season_plan",
+    usage: USAGE,
+};
+
 // The most teams that this program has memory for.
 const TEAMS: usize = 32;
-
-// What the words of the call ask for.
-#[derive(Drop)]
-enum Asked {
-    Help,
-    Teams(usize),
-    Unclear(String),
-}
-
-// Whether there is one decimal digit or more, and nothing else.
-fn all_digits(bytes: &[u8]) -> bool
-    ensures { Decides result (IsNumeral 10 bytes.now) }
-{
-    for b in bytes {
-        if *b < b'0' || *b > b'9' {
-            return false;
-        }
-    }
-    !bytes.is_empty()
-}
 
 // Whether a text is a numeral: digits, with a plus before them or not.
 fn is_numeral(text: &str) -> bool
     ensures { Decides result (IsNumeral 10 (without_leading_plus text.now)) }
 {
     let bytes = text.as_bytes();
-    if bytes.len() > 0 && bytes[0] == b'+' {
-        all_digits(&bytes[1..])
-    } else {
-        all_digits(bytes)
-    }
+    let digits = bytes.strip_prefix(b"+").unwrap_or(bytes);
+    !digits.is_empty() && digits.iter().all(|b| b.is_ascii_digit())
 }
 
 // The number that a text writes. One that is too large for the machine counts as the largest, which is refused all the same.
@@ -66,105 +52,70 @@ fn number_in(text: &str) -> Option<usize>
 {
     match text.parse::<usize>() {
         Ok(n) => Some(n),
-        Err(_) => {
-            if is_numeral(text) {
-                Some(usize::MAX)
-            } else {
-                None
-            }
-        }
+        // That a number is too large is said as well of what is no numeral, but begins with a large one.
+        Err(_) if is_numeral(text) => Some(usize::MAX),
+        Err(_) => None,
     }
 }
 
-fn read_words(rt: &HostRuntime) -> io::Result<Asked> {
-    let heap = rt.alloc();
-    let mut words = env::args(rt)?.skip(1);
-    let Some(word) = words.next() else {
+// What the one word asks for, or none.
+fn asked_by(heap: Global, word: Option<String>) -> io::Result<Asked<usize>>
+    ensures { IfOk result (λ asked. AsksFor word (teams_of asked)) }
+{
+    let Some(word) = word else {
         return Ok(Asked::Unclear(String::from_str(heap, "no number of teams is given")?));
     };
-    if let Some(more) = words.next() {
-        return Ok(Asked::Unclear(format!(in heap;
-            "one number of teams is expected, and `{more}` is too much"
-        )?));
-    }
-    if word.as_str() == "--help" || word.as_str() == "-h" {
-        return Ok(Asked::Help);
-    }
     match number_in(word.as_str()) {
-        Some(n) => Ok(Asked::Teams(n)),
+        Some(n) => Ok(Asked::For(n)),
         None => Ok(Asked::Unclear(format!(in heap; "`{word}` is no number of teams")?)),
     }
 }
 
-// Ends the program with status 1, once it has said why.
-fn stop() -> io::Result<()>
-    ensures { is_ok result ≡ false }
-{
-    Err(io::Error::from(io::ErrorKind::InvalidInput))
-}
-
 // A round as a line of text, as in `round 0: 3-0 1-2`.
-fn round_line(heap: Global, r: usize, round: &[u8]) -> io::Result<String> {
+fn round_line(heap: Global, r: usize, round: &[u8]) -> io::Result<String>
+    ensures { IfOk result (λ line. string_bytes line ≡ line_of r round.now (length round.now / 2)) }
+{
     let mut line = format!(in heap; "round {r}:")?;
-    for k in 0..round.len() / 2 {
-        if let Some(game) = game_in(round, k) {
-            let host = game.host;
-            let guest = game.guest;
-            write!(line, " {host}-{guest}")?;
-        }
+    let (pairs, _) = round.as_chunks::<2>();
+    for pair in pairs {
+        let game = Game::from(*pair);
+        write!(line, " {game}")?;
     }
     Ok(line)
 }
 
+// Prints a line for each round of the plan's first half, which has one round fewer than teams.
 fn print_rounds(rt: &HostRuntime, n: usize, plan: &[u8]) -> io::Result<()>
     requires { 0 < n }
 {
-    for r in 0..n - 1 {
-        if let Some(round) = round_in(plan, n, r) {
-            let line = round_line(rt.alloc(), r, round)?;
-            println!(rt; "{line}")?;
-        }
+    for (r, round) in plan.chunks_exact(n).take(n - 1).enumerate() {
+        let line = round_line(rt.alloc(), r, round)?;
+        println!(rt; "{line}")?;
     }
     Ok(())
 }
 
 // Prints the plan, or the refusal. It ends well only if a plan is made for so many teams, and there is memory for it.
-fn tell(rt: &HostRuntime, n: usize) -> io::Result<()>
-    ensures { is_ok result ≡ true → is_given (unless_unfit n (plan_length 32) (given n)) ≡ true }
+fn tell(rt: &HostRuntime, n: usize) -> io::Result<ExitCode>
+    ensures { OnSuccess result (is_given (unless_unfit n (plan_length 32) (given n)) ≡ true) }
 {
     let mut plan = [0u8; TEAMS * (TEAMS - 1)];
     match write_plan(n, &mut plan) {
         Ok(breaks) => {
             print_rounds(rt, n, &plan)?;
-            println!(rt; "breaks {breaks}")
+            println!(rt; "breaks {breaks}")?;
+            Ok(ExitCode::SUCCESS)
         }
-        Err(refusal) => {
-            println!(rt; "{refusal}")?;
-            stop()
-        }
+        Err(refusal) => refuse(rt, refusal),
     }
 }
 
-fn run(rt: &HostRuntime) -> io::Result<()> {
-    match read_words(rt) {
-        Ok(Asked::Help) => println!(rt; "{USAGE}"),
-        Ok(Asked::Teams(n)) => tell(rt, n),
-        Ok(Asked::Unclear(why)) => {
-            eprintln!(rt; "season_plan: {why}\n\n{USAGE}")?;
-            stop()
-        }
-        Err(why) => {
-            eprintln!(rt; "season_plan: the words of the call cannot be read: {why}")?;
-            stop()
-        }
-    }
-}
-
-// It prints nothing itself: a refusal, wrong usage and what cannot be read have been told of by then. Of a failed write, or of memory
-// that has run out, only the status tells.
+// Prints the plan for as many teams as the one word says, or how the program is called.
 fn main(rt: HostRuntime) -> ExitCode {
-    match run(&rt) {
-        Ok(()) => ExitCode::SUCCESS,
-        Err(_) => ExitCode::FAILURE,
-    }
+    PROGRAM.run(
+        &rt,
+        "one number of teams",
+        |word| asked_by(rt.alloc(), word),
+        |n| tell(&rt, n),
+    )
 }

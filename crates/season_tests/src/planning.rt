@@ -2,85 +2,95 @@
 use crate::plans::FOUR;
 use planner::breaks::count_breaks;
 use planner::circle::write_plan;
-use season::game::game_in;
 use season::plan::round_in;
 use season::refusal::{Lent, Refusal};
 use std::process::Abort;
 
-// Whether a team is at home in a round, or `None` if it has not just one game there.
-fn home(plan: &[u8], n: usize, r: usize, team: usize) -> Option<bool> {
-    let round = round_in(plan, n, r)?;
-    let mut found = None;
-    for k in 0..n / 2 {
-        let game = game_in(round, k)?;
-        if game.host as usize == team || game.guest as usize == team {
-            if found.is_some() || game.host == game.guest {
-                return None;
-            }
-            found = Some(game.host as usize == team);
-        }
-    }
-    found
+// Rounds of a plan as bytes, looked at game by game, with nothing of the planner's.
+#[derive(Clone, Copy)]
+struct Rounds<'a> {
+    plan: &'a [u8],
+    teams: u8,
+    count: usize,
 }
 
-fn meet(plan: &[u8], n: usize, a: usize, b: usize) -> bool {
-    for r in 1..n {
-        let Some(round) = round_in(plan, n, r - 1) else {
-            return false;
-        };
-        for k in 0..n / 2 {
-            if let Some(game) = game_in(round, k) {
-                let host = game.host as usize;
-                let guest = game.guest as usize;
-                if host == a && guest == b || host == b && guest == a {
-                    return true;
-                }
-            }
-        }
+impl<'a> Rounds<'a> {
+    // The first half, in which each of two or more teams plays each of the others once.
+    fn first_half(plan: &'a [u8], teams: u8) -> Self {
+        let count = usize::from(teams).saturating_sub(1);
+        Rounds { plan, teams, count }
     }
-    false
-}
 
-// Whether two teams are at home and away in the same rounds.
-fn same_row(plan: &[u8], n: usize, a: usize, b: usize) -> bool {
-    for r in 1..n {
-        if home(plan, n, r - 1, a) != home(plan, n, r - 1, b) {
-            return false;
-        }
+    // The games of a round, host and guest, and none where the plan ends before.
+    fn games(self, r: usize) -> &'a [[u8; 2]] {
+        let round = round_in(self.plan, usize::from(self.teams), r).unwrap_or(&[]);
+        round.as_chunks().0
     }
-    true
-}
 
-// The breaks over so many rounds.
-fn breaks_over(plan: &[u8], n: usize, rounds: usize) -> usize {
-    let mut breaks = 0usize;
-    for team in 0..n {
-        for r in 1..rounds {
-            if home(plan, n, r, team) == home(plan, n, r - 1, team) {
-                breaks = breaks.saturating_add(1);
-            }
+    // Whether a team is at home in a round, or `None` if it has not just one game there.
+    fn home(self, r: usize, team: u8) -> Option<bool> {
+        let mut own = self
+            .games(r)
+            .iter()
+            .filter(|&&[host, guest]| host == team || guest == team);
+        match (own.next(), own.next()) {
+            (Some([host, guest]), None) if host != guest => Some(*host == team),
+            _ => None,
         }
     }
-    breaks
+
+    // Whether a team has just one game in each round.
+    fn plays_each_round(self, team: u8) -> bool {
+        (0..self.count).all(|r| self.home(r, team).is_some())
+    }
+
+    // Whether two teams have a game with each other in a round.
+    fn meet_in(self, r: usize, a: u8, b: u8) -> bool {
+        self.games(r).iter().any(|&[host, guest]| host == a && guest == b
+            || host == b && guest == a)
+    }
+
+    // Whether two teams meet in one of the rounds, wherever that is.
+    fn meet(self, a: u8, b: u8) -> bool {
+        (0..self.count).any(|r| self.meet_in(r, a, b))
+    }
+
+    // Whether two teams are at home and away in the same rounds.
+    fn same_row(self, a: u8, b: u8) -> bool {
+        (0..self.count).all(|r| self.home(r, a) == self.home(r, b))
+    }
+
+    // The breaks of a team: rounds at home after one at home, or away after one away.
+    fn breaks_of(self, team: u8) -> usize {
+        (0..self.count)
+            .zip(1..self.count)
+            .filter(|&(before, now)| self.home(before, team) == self.home(now, team))
+            .count()
+    }
+
+    // The breaks of all teams.
+    fn breaks(self) -> usize {
+        (0..self.teams).fold(0, |sum: usize, team| {
+            sum.saturating_add(self.breaks_of(team))
+        })
+    }
 }
 
 // The same games with home and away exchanged.
-fn write_return(plan: &[u8], half: &mut [u8]) {
-    for (k, team) in plan.iter().enumerate() {
-        if let Some(place) = half.get_mut(k ^ 1) {
-            *place = *team;
-        }
+fn exchanged(mut plan: [u8; 12]) -> [u8; 12] {
+    for game in plan.chunks_exact_mut(2) {
+        game.reverse();
     }
+    plan
 }
 
-fn check_proper(rt: &impl Abort, plan: &[u8], n: usize) {
-    for a in 0..n {
-        for r in 1..n {
-            assert!(rt; home(plan, n, r - 1, a).is_some());
-        }
+// Each team has one game in each round, each two meet, and no two have the same row.
+fn check_proper(rt: &impl Abort, rounds: Rounds) {
+    for a in 0..rounds.teams {
+        assert!(rt; rounds.plays_each_round(a));
         for b in 0..a {
-            assert!(rt; meet(plan, n, a, b));
-            assert!(rt; !same_row(plan, n, a, b));
+            assert!(rt; rounds.meet(a, b));
+            assert!(rt; !rounds.same_row(a, b));
         }
     }
 }
@@ -95,11 +105,14 @@ fn the_worked_plans_are_written(rt: HostRuntime) {
     assert_eq!(rt; four, FOUR);
     let mut six = [9u8; 30];
     assert_eq!(rt; write_plan(6, &mut six), Ok(4));
-    assert_eq!(rt; &six[0..6], &[5u8, 0, 1, 4, 3, 2][0..]);
-    assert_eq!(rt; &six[6..12], &[1u8, 5, 2, 0, 4, 3][0..]);
-    assert_eq!(rt; &six[12..18], &[5u8, 2, 3, 1, 0, 4][0..]);
-    assert_eq!(rt; &six[18..24], &[3u8, 5, 4, 2, 1, 0][0..]);
-    assert_eq!(rt; &six[24..30], &[5u8, 4, 0, 3, 2, 1][0..]);
+    let rounds = [
+        [5u8, 0, 1, 4, 3, 2],
+        [1, 5, 2, 0, 4, 3],
+        [5, 2, 3, 1, 0, 4],
+        [3, 5, 4, 2, 1, 0],
+        [5, 4, 0, 3, 2, 1],
+    ];
+    assert_eq!(rt; six.as_slice(), rounds.as_flattened());
 }
 
 #[test]
@@ -111,13 +124,16 @@ fn twenty_teams_have_18_breaks(rt: HostRuntime) {
 
 #[test]
 fn every_plan_is_proper_and_has_n_minus_2_breaks(rt: HostRuntime) {
-    for half in 0..32usize {
-        let n = 2 * half + 2;
+    for half in 0..32u8 {
+        let teams = 2 * half + 2;
+        let n = usize::from(teams);
+        let breaks = usize::from(2 * half);
         let mut plan = [0u8; 4032];
-        assert_eq!(rt; write_plan(n, &mut plan), Ok(2 * half));
-        check_proper(&rt, &plan, n);
-        assert_eq!(rt; breaks_over(&plan, n, n - 1), 2 * half);
-        assert_eq!(rt; count_breaks(n, &plan), Ok(2 * half));
+        assert_eq!(rt; write_plan(n, &mut plan), Ok(breaks));
+        let rounds = Rounds::first_half(&plan, teams);
+        check_proper(&rt, rounds);
+        assert_eq!(rt; rounds.breaks(), breaks);
+        assert_eq!(rt; count_breaks(n, &plan), Ok(breaks));
     }
 }
 
@@ -144,10 +160,10 @@ fn memory_that_is_a_byte_too_short_is_refused(rt: HostRuntime) {
     let mut plan = [9u8; 4031];
     assert_eq!(rt; write_plan(64, &mut plan), Err(short));
     assert_eq!(rt; plan, [9; 4031]);
-    assert_eq!(rt; write_plan(4, &mut plan[0..11]), Err(short));
-    assert_eq!(rt; write_plan(2, &mut plan[0..1]), Err(short));
+    assert_eq!(rt; write_plan(4, &mut plan[..11]), Err(short));
+    assert_eq!(rt; write_plan(2, &mut plan[..1]), Err(short));
     assert_eq!(rt; plan, [9; 4031]);
-    assert_eq!(rt; count_breaks(4, &plan[0..11]), Err(short));
+    assert_eq!(rt; count_breaks(4, &plan[..11]), Err(short));
 }
 
 // Round for round: 0-1 2-3, 0-2 1-3, 0-3 2-1. Team 0 is at home throughout, 3 away; 1 is away, at home, away, and 2 at home,
@@ -155,7 +171,7 @@ fn memory_that_is_a_byte_too_short_is_refused(rt: HostRuntime) {
 #[test]
 fn breaks_of_a_plan_from_elsewhere_are_counted(rt: HostRuntime) {
     let plan = [0u8, 1, 2, 3, 0, 2, 1, 3, 0, 3, 2, 1];
-    check_proper(&rt, &plan, 4);
+    check_proper(&rt, Rounds::first_half(&plan, 4));
     assert_eq!(rt; count_breaks(4, &plan), Ok(4));
 }
 
@@ -167,18 +183,23 @@ fn breaks_of_bytes_that_are_no_plan_are_counted(rt: HostRuntime) {
 
 #[test]
 fn breaks_are_not_counted_over_the_return_half_too(rt: HostRuntime) {
-    let mut season = [0u8; 24];
-    season[0..12].copy_from_slice(&FOUR);
-    write_return(&FOUR, &mut season[12..24]);
-    assert_eq!(rt; breaks_over(&season, 4, 6), 6);
-    assert_eq!(rt; count_breaks(4, &season), Ok(2));
+    let halves = [FOUR, exchanged(FOUR)];
+    let plan = halves.as_flattened();
+    let rounds = Rounds {
+        plan,
+        teams: 4,
+        count: 6,
+    };
+    assert_eq!(rt; rounds.breaks(), 6);
+    assert_eq!(rt; count_breaks(4, plan), Ok(2));
 }
 
 // Teams 0 and 1 are at home throughout, so they never meet, and there are more breaks than a proper plan needs.
 #[test]
 fn two_teams_with_the_same_row_never_meet(rt: HostRuntime) {
     let plan = [0u8, 2, 1, 3, 0, 3, 1, 2, 0, 2, 1, 3];
-    assert!(rt; same_row(&plan, 4, 0, 1));
-    assert!(rt; !meet(&plan, 4, 0, 1));
+    let rounds = Rounds::first_half(&plan, 4);
+    assert!(rt; rounds.same_row(0, 1));
+    assert!(rt; !rounds.meet(0, 1));
     assert_eq!(rt; count_breaks(4, &plan), Ok(8));
 }

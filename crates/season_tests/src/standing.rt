@@ -1,5 +1,5 @@
 // The standings: tables after results, points after an ending, and who is sure to be first.
-use crate::files::{OLD, THREE, full_file, level_file};
+use crate::files::{LARGEST, OLD, THREE, full_file, level_file};
 use season::game::Game;
 use season::refusal::{Lent, Refusal};
 use season::table::Sizes;
@@ -24,9 +24,10 @@ fn check_after(rt: &impl Abort, file: &[u8], results: &[u8], points: [u16; 3], l
         table_after(file, results, &mut now, &mut row),
         Ok(Sizes { teams: 3, games })
     );
-    assert_eq!(rt; now, [points[0], points[1], points[2], 99]);
-    for (k, game) in row.iter().enumerate() {
-        assert_eq!(rt; *game, left.get(k).copied().unwrap_or(OLD));
+    let [a, b, c] = points;
+    assert_eq!(rt; now, [a, b, c, 99]);
+    for (game, then) in row.iter().zip(left.iter().chain(&[OLD; 3])) {
+        assert_eq!(rt; game, then);
     }
 }
 
@@ -62,23 +63,16 @@ fn results_come_one_after_the_other(rt: HostRuntime) {
     check_after(&rt, &[3, 8, 0, 6, 0, 4, 0, 2, 0], &[1], [9, 6, 5], &[]);
 }
 
-// What is answered with memory that had other things before, of which nothing has changed.
-fn check_refused(
-    rt: &impl Abort,
-    file: &[u8],
-    results: &[u8],
-    teams: usize,
-    games: usize,
-    refusal: Refusal,
-) {
+// What is answered with room for a table of these sizes, in memory that had other things before, of which nothing has changed.
+fn check_refused(rt: &impl Abort, file: &[u8], results: &[u8], room: Sizes, refusal: Refusal) {
     let mut points = [99u16; 64];
     let mut row = [OLD; 1024];
     assert_eq!(rt;
         table_after(
             file,
             results,
-            &mut points[0..teams.min(64)],
-            &mut row[0..games.min(1024)],
+            &mut points[..room.teams.min(64)],
+            &mut row[..room.games.min(1024)],
         ),
         Err(refusal)
     );
@@ -97,21 +91,26 @@ fn points_past_1000_are_refused(rt: HostRuntime) {
         [1000, 1000, 1000],
         &[Game { host: 1, guest: 2 }],
     );
-    check_refused(&rt, &file, &[2], 3, 2, Refusal::PointsAbove(0));
-    check_refused(&rt, &file, &[0], 3, 2, Refusal::PointsAbove(1));
-    check_refused(&rt, &file, &[255, 1], 3, 2, Refusal::PointsAbove(2));
+    let room = Sizes { teams: 3, games: 2 };
+    check_refused(&rt, &file, &[2], room, Refusal::PointsAbove(0));
+    check_refused(&rt, &file, &[0], room, Refusal::PointsAbove(1));
+    check_refused(&rt, &file, &[255, 1], room, Refusal::PointsAbove(2));
     // and 2 passes too
-    check_refused(&rt, &file, &[0, 0], 3, 2, Refusal::PointsAbove(1));
+    check_refused(&rt, &file, &[0, 0], room, Refusal::PointsAbove(1));
 }
 
 #[test]
 fn the_reader_refuses_first(rt: HostRuntime) {
     let file = [2, 232, 3, 0, 0, 0, 1, 1, 1];
+    let room = Sizes { teams: 2, games: 2 };
     // and points past 1,000
-    check_refused(&rt, &file, &[2], 2, 2, Refusal::AgainstItself(1));
+    check_refused(&rt, &file, &[2], room, Refusal::AgainstItself(1));
     // though no game would be left
-    check_refused(&rt, &THREE, &[2, 2], 3, 1, Refusal::MemoryShort(Lent::Row));
-    check_refused(&rt, &THREE, &[], 2, 2, Refusal::MemoryShort(Lent::Points));
+    let row_short = Sizes { teams: 3, games: 1 };
+    let refusal = Refusal::MemoryShort(Lent::Row);
+    check_refused(&rt, &THREE, &[2, 2], row_short, refusal);
+    let refusal = Refusal::MemoryShort(Lent::Points);
+    check_refused(&rt, &THREE, &[], room, refusal);
 }
 
 // Each team hosts 16 of the games, and wins them.
@@ -138,18 +137,17 @@ fn the_last_team_of_the_largest_table_is_told(rt: HostRuntime) -> Result<(), Fai
     let file = full_file(&rt, 1024)?;
     let mut results = vec![in rt.alloc(); 255u8; 63]?;
     results.push(2)?;
-    check_refused(&rt, &file, &results, 64, 1024, Refusal::PointsAbove(63));
-    check_refused(
-        &rt,
-        &file,
-        &results,
-        64,
-        1023,
-        Refusal::MemoryShort(Lent::Row),
-    );
+    check_refused(&rt, &file, &results, LARGEST, Refusal::PointsAbove(63));
+    let row_short = Sizes {
+        games: 1023,
+        ..LARGEST
+    };
+    let refusal = Refusal::MemoryShort(Lent::Row);
+    check_refused(&rt, &file, &results, row_short, refusal);
     Ok(())
 }
 
+// What is answered of an ending of the table of three, and the points in memory that had other things before.
 fn check_points(rt: &impl Abort, ending: &[u8], answer: Result<Sizes, Refusal>, points: [u16; 4]) {
     let mut now = [99u16; 4];
     assert_eq!(rt; points_after(&THREE, ending, &mut now), answer);
@@ -219,5 +217,5 @@ fn a_team_that_is_not_there_is_not_sure(rt: HostRuntime) {
         sure_first(&THREE, usize::MAX),
         Err(Refusal::AuditEnding(0))
     );
-    assert_eq!(rt; sure_first(&THREE[0..6], 3), Err(Refusal::FileEnds(6)));
+    assert_eq!(rt; sure_first(&THREE[..6], 3), Err(Refusal::FileEnds(6)));
 }

@@ -1,22 +1,24 @@
 -- The table after results keeps to the limits, and is the one that lent memory holds to which it was written.
-use Rattle.std.proofs.Common.{◌≡◌, ℕ, ltb, List, ◌++◌, map, length, drop, sym, refl, ap, ◌∙◌, arith}
+use Rattle.std.proofs.Common.{◌≡◌, ℕ, ◌≤◌, ltb, List, ◌++◌, map, length, drop, sym, refl, ap, ◌∙◌, arith}
 use mathlib.Core.List.{map-map}
 use Rattle.std.proofs.lemmas.List.FromFn.{length-map-range_with_len}
-use Rattle.std.proofs.lemmas.List.{length-append, length-map, map-id, take-append-le}
-use Rattle.std.proofs.lemmas.Bool.{ltb-false, le-ltb}
+use Rattle.std.proofs.lemmas.List.{length-append, length-map, map-id}
+use Rattle.std.proofs.lemmas.Bool.{ltb-false}
 use Rattle.season.specs.declared.game.Game.{Game}
 use Rattle.season.specs.declared.table.Sizes.{Sizes}
 use Rattle.season.specs.Encoding.{Same, Within, match_of, sizes_of, table_in}
-use Rattle.season.specs.Reading.{outcome, unless_at}
+use Rattle.season.specs.Bytes.{game_at}
+use Rattle.season.specs.Reading.{games_in, outcome, sizes_in, unless_at}
 use Rattle.season.specs.Refused.{and_then, given, unless}
 use Rattle.season.specs.Rows.{first, written}
 use Rattle.season.specs.Table.{Table}
-use Rattle.season.proofs.Checks.{passed_at, pass_at}
+use Rattle.season.proofs.Checks.{passed_at}
 use Rattle.season.proofs.First.{first_same}
-use Rattle.season.proofs.Tables.{same_rows, same_back, same_on, within_same}
+use Rattle.season.proofs.Taken.{taken}
+use Rattle.season.proofs.Tables.{same_rows, within_same}
 use Rattle.standings.proofs.Fair.{fair, sound_from_fair, unplayed_fair}
 use Rattle.standings.proofs.Matches.{unplayed_few}
-use Rattle.standings.specs.Results.{Low, Played, after, game_of, outcome_after, passes_limit, told_after}
+use Rattle.standings.specs.Results.{Low, Played, after, game_of, outcome_after, passes_limit, told_after, unplayed}
 
 module _ (t : Table) (xs : List ℕ) where
   -- what is known where results are not refused
@@ -25,9 +27,6 @@ module _ (t : Table) (xs : List ℕ) where
   low_passed s z e =
       let both = passed_at (passes_limit (after t xs)) t.teams 4 (given z) s (sym e) in
       ((λ i l. ltb-false _ _ (both.0 i l)), cc)
-
-  pub told_low : Low (after t xs) → told_after t xs ≡ given (sizes_of (after t xs))
-  told_low low = pass_at (passes_limit (after t xs)) t.teams 4 _ (λ i l. le-ltb _ _ (low i l))
 
   within_after : Within t → Low (after t xs) → Within (after t xs)
   within_after w low = record {
@@ -53,9 +52,9 @@ module _ (t : Table) (xs : List ℕ) where
         same = same;
       }
 
--- the same table after results, and its rows with more behind them
+-- the same table after results
 module _ {t u : Table} (same : Same t u) (xs : List ℕ) where
-  same_after : Same (after t xs) (after u xs)
+  pub same_after : Same (after t xs) (after u xs)
   same_after = record {
     teams = same.teams;
     points = λ i l. rw (same.points i l, same.left) refl;
@@ -73,21 +72,17 @@ module _ {t u : Table} (same : Same t u) (xs : List ℕ) where
       λ i. record { teams = same.teams i; games = length (same_after.left i) } in
       λ i. unless (ltb (place i) (same.teams i)) 4 (place i) (given (sizes i))
 
-  pub played_same :
-      (s : Sizes) (points more : List ℕ) (row others : List Game) → Played t xs s points row →
-      Played u xs s (points ++ more) (row ++ others)
-  played_same s points more row others h =
-      let front = take-append-le s.teams points more h.teams_there in
-      let games_front = take-append-le s.games row others h.games_there in
-      record {
-        teams_there = rw length-append (omega (arith, h.teams_there));
-        games_there = rw length-append (omega (arith, h.games_there));
-        within = rw (front, games_front) h.within;
-        same = rw (front, games_front) (same_on (same_back same_after) h.same);
-      }
-
 -- the answer where the reader takes the file
 pub outcome_played :
     (file xs : List ℕ) (row points : ℕ) (s : Sizes) → given s ≡ outcome file row points →
     told_after (table_in file) xs ≡ outcome_after file xs row points
 outcome_played file xs row points s taken = ap (λ o. and_then o (λ _. told_after (table_in file) xs)) taken
+
+-- room for the games left where there is room for the games of the file
+pub room_after :
+    (file xs : List ℕ) (row points : ℕ) (s : Sizes) (games : List Game) → given s ≡ outcome file row points →
+    unplayed (table_in file).left xs ≡ map match_of games → length games ≤ row
+room_after file xs row points s games is_taken left =
+    let room = (taken file row points s (sym is_taken)).1.row_room in
+    let long = length-map-range_with_len (λ k. match_of (game_at (games_in file (sizes_in file)) k)) 0 (sizes_in file).games in
+    omega (arith, ap length left, length-map games match_of, unplayed_few (table_in file).left xs)

@@ -1,6 +1,6 @@
 -- A loop that moves the games without a result to the front.
 use Rattle.std.proofs.Common.{◌≡◌, ℕ, ◌+◌, ◌<◌, ◌≤◌, true, false, List, [], ◌∷◌, ◌++◌, map, length, get_or, take, drop, set, sym, refl, ap, ◌∙◌, append-nil, arith}
-use Rattle.std.proofs.lemmas.List.{length-map, length_push, map_push, take_all}
+use Rattle.std.proofs.lemmas.List.{length-map, length_push, map_push}
 use Rattle.season.proofs.Fronts.{front_more, past_front}
 use Rattle.season.specs.declared.game.Game.{Game}
 use Rattle.season.specs.Encoding.{match_of}
@@ -28,12 +28,6 @@ kept_none old xs = record { count = refl; row = refl }
 module _ {old : List Game} {xs : List ℕ} {k left : ℕ} {games : List Game} (so_far : Kept old xs k left games) where
   pub kept_few : left ≤ k
   kept_few = omega (arith, unplayed_few (map match_of (take k old)) xs, few_before old k, so_far.count)
-
-  pub kept_all :
-      length old ≤ k →
-      (left ≡ length (unplayed (map match_of old) xs))
-      × (games ≡ map game_of (unplayed (map match_of old) xs) ++ drop left old)
-  kept_all past = let whole = take_all k old past in (rw whole at so_far.count, rw whole at so_far.row)
 
   module _ (l : k < length old) where
     abbrev here : Match

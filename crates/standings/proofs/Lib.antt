@@ -8,6 +8,5 @@ pub mod Kept
 pub mod Matches
 pub mod Parts
 pub mod ReadTables
-pub mod Rooms
 pub mod SureFirst
 pub mod Totals

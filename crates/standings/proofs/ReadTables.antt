@@ -1,53 +1,52 @@
--- The table of a file, reckoned by the parts of lent memory that hold it.
-use Rattle.std.proofs.Common.{◌≡◌, ℕ, ◌-◌, ◌<◌, Bool, leb, List, take, Decides, sym, ◌∙◌}
-use native.Mathlib.Nat.{sub-zero}
-use Rattle.std.proofs.lemmas.List.{length-take-le}
+-- The table of a file, reckoned by memory that holds it.
+use Rattle.std.proofs.Common.{◌≡◌, ℕ, ◌<◌, ◌≤◌, Bool, leb, List, ◌++◌, length, Decides, sym, ap, ◌∙◌}
+use Rattle.std.proofs.lemmas.List.{length-map, length-take-le, take-append-le}
+use Rattle.std.proofs.lemmas.Bool.{lt-leb}
 use Rattle.std.proofs.lemmas.Bool.Decides.{Decides-at}
-use Rattle.season.proofs.Checks.{handed_on}
+use Rattle.season.proofs.Checks.{pass}
 use Rattle.season.proofs.ReadBack.{same_held}
 use Rattle.season.proofs.Tables.{within_same}
 use Rattle.season.specs.declared.game.Game.{Game}
 use Rattle.season.specs.declared.table.Sizes.{Sizes}
-use Rattle.season.specs.Encoding.{Holds, Same, table_held, table_in}
+use Rattle.season.specs.Encoding.{Holds, Same, Within, sizes_of, table_front, table_in}
 use Rattle.season.specs.Reading.{outcome}
 use Rattle.season.specs.Refused.{and_then, given}
-use Rattle.season.specs.Rows.{written}
-use Rattle.season.specs.Table.{Table, final}
-use Rattle.standings.proofs.FullRows.{same_finals}
+use Rattle.season.specs.Table.{Table}
 use Rattle.standings.proofs.SureFirst.{sure_decides, sure_same}
 use Rattle.standings.specs.Asked.{unless_absent}
 use Rattle.standings.specs.Sure.{AlwaysFirst, outcome_sure, sure}
 
--- the parts of lent memory that have the points and the games, as the checker reads `&row[0..n]`
-abbrev pub parts_of : Sizes → List ℕ → List Game → Table
-parts_of s points row = table_held (take (s.teams - 0) points) (take (s.games - 0) row)
+-- the table of a file that was read into the front of memory
+pub same_own :
+    {file : List ℕ} {s : Sizes} {points : List ℕ} {row : List Game} → Holds file s points row → (more : List ℕ) (others : List Game) →
+    Same (table_front s (points ++ more) (row ++ others)) (table_in file)
+same_own {s = s} {points = points} {row = row} h more others =
+    rw (take-append-le s.teams points more h.teams_there, take-append-le s.games row others h.games_there) (same_held h)
 
-pub same_parts :
-    {file : List ℕ} {s : Sizes} {points : List ℕ} {row : List Game} → Holds file s points row →
-    Same (parts_of s points row) (table_in file)
-same_parts {s = s} h = rw (sub-zero s.teams, sub-zero s.games) (same_held h)
+-- a table in front of memory that has room for it has the sizes that it is said to have
+pub sizes_front :
+    (s : Sizes) (points : List ℕ) (row : List Game) → s.teams ≤ length points → s.games ≤ length row →
+    sizes_of (table_front s points row) ≡ s
+sizes_front s points row teams_there games_there =
+    let teams = length-take-le s.teams points teams_there in
+    let games = length-map _ _ ∙ length-take-le s.games row games_there in
+    λ i. record { teams = teams i; games = games i }
 
-module _ {file : List ℕ} {s : Sizes} {points : List ℕ} {row : List Game} (h : Holds file s points row) where
-  pub finals_read :
-      (xs old new : List ℕ) → new ≡ written (final (parts_of s points row) xs) (parts_of s points row).teams old →
-      new ≡ written (final (table_in file) xs) (table_in file).teams old
-  finals_read xs old new e = e ∙ same_finals (same_parts h) xs old
-
+module _ (file : List ℕ) {t : Table} (same : Same t (table_in file)) where
   pub sure_read :
-      (team : ℕ) (b : Bool) → team < s.teams → b ≡ sure (parts_of s points row) team →
+      Within t → (team : ℕ) (b : Bool) → team < t.teams → b ≡ sure t team →
       (b ≡ sure (table_in file) team) × Decides b (AlwaysFirst (table_in file) team)
-  sure_read team b l is_b =
-      let part : team < (parts_of s points row).teams =
-      rw (sub-zero s.teams, length-take-le s.teams points h.teams_there) l in
-      let there : team < (table_in file).teams = rw (same_parts h).teams at part in
-      let sound = (within_same (same_held h) h.within).sound in
-      let is = is_b ∙ sure_same (same_parts h) team part in
+  sure_read within team b l is_b =
+      let there : team < (table_in file).teams = rw same.teams at l in
+      let sound = (within_same same within).sound in
+      let is = is_b ∙ sure_same same team l in
       (is, Decides-at b (sure (table_in file) team) is (sure_decides (table_in file) team sound there))
 
 -- the answer where the file was taken and the team is there
 pub sure_told :
-    (file : List ℕ) (team : ℕ) (z : Sizes) →
-    given z ≡ and_then (outcome file 1024 64) (λ s. unless_absent team s.teams (given s)) →
-    given (sure (table_in file) team) ≡ outcome_sure file team
-sure_told file team z asked =
-    sym (handed_on (outcome file 1024 64) (λ s. leb s.teams team) 9 0 z (sure (table_in file) team) asked)
+    (file : List ℕ) (team : ℕ) (s : Sizes) (b : Bool) → given s ≡ outcome file 1024 64 → team < s.teams → b ≡ sure (table_in file) team →
+    given b ≡ outcome_sure file team
+sure_told file team s b taken l is_b =
+    ap given is_b
+    ∙ sym (pass (leb s.teams team) 9 0 _ (lt-leb _ _ l))
+    ∙ ap (λ o. and_then o (λ s. unless_absent team s.teams (given (sure (table_in file) team)))) taken

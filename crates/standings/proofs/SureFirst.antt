@@ -1,6 +1,7 @@
 -- A team is sure to be first just if no other can come to more than it has.
-use Rattle.std.proofs.Common.{◌≡◌, ℕ, ◌*◌, ◌<◌, ◌||◌, eqb, leb, ◌≢◌, List, [], ◌∷◌, Decides, refl, ap, ◌∙◌, inl, inr, arith}
-use Rattle.std.proofs.lemmas.Bool.{cases_eq, le-leb, leb-true}
+use Rattle.std.proofs.Common.{◌≡◌, ℕ, zero, suc, ◌+◌, ◌*◌, ◌<◌, Bool, not, ◌||◌, eqb, leb, ◌≢◌, List, [], ◌∷◌, Decides, sym, refl, ap, ◌∙◌, inl, inr, zero-add, add-one, arith}
+use Rattle.std.specs.List.{list_any, range_with_len}
+use Rattle.std.proofs.lemmas.Bool.{cases_Bool, cases_eq, le-leb, leb-true, lt-leb}
 use Rattle.std.proofs.lemmas.Bool.Decides.{nat_tests}
 use Rattle.season.proofs.First.{first_none, first_same, none_before}
 use Rattle.season.specs.Encoding.{Same}
@@ -72,6 +73,22 @@ sure_decides t i s l = (
       grind (arith, nat_tests)) in
       le-leb _ _ (omega arith)),
 )
+
+none_from :
+    (p : ℕ → Bool) (k n : ℕ) → not (list_any p (range_with_len k n)) ≡ leb (k + n) (first p k n)
+none_from p k zero = sym (le-leb _ _ (omega arith))
+none_from p k (suc n) =
+    let rest = none_from p (k + 1) n in
+    elim (cases_Bool (p k)) [
+      | inl here ↦ rw here (sym (lt-leb _ _ (omega arith)))
+      | inr not_here ↦
+          let one_more : k + suc n ≡ k + 1 + n = omega arith in
+          rw not_here (rest ∙ rw (one_more, add-one) refl)
+    ]
+
+-- a test holds at no place just if the first place is past the end
+pub none_any : (p : ℕ → Bool) (n : ℕ) → not (list_any p (range_with_len 0 n)) ≡ leb n (first p 0 n)
+none_any p n = none_from p 0 n ∙ rw (zero-add n) refl
 
 -- the answer for the same table
 pub sure_same : {t u : Table} → Same t u → (i : ℕ) → i < t.teams → sure t i ≡ sure u i

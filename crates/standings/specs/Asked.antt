@@ -1,11 +1,10 @@
--- What may be asked of a table: an ending of its matches, and a team of it.
-use Rattle.std.specs.Prelude.{ℕ, ◌<◌, not, List, length, ◌==◌, nat_le, nat_lt, slice_index}
+-- What is asked of a table: an ending of its matches, and a team of it.
+use Rattle.std.specs.Prelude.{ℕ, not, List, length, ◌==◌, nat_le, nat_lt, slice_index}
 use Rattle.season.specs.declared.table.Sizes.{Sizes}
-use Rattle.season.specs.Encoding.{Within}
 use Rattle.season.specs.Reading.{outcome, unless_at}
 use Rattle.season.specs.Refused.{Told, and_then, given, refused, unless}
 use Rattle.season.specs.Rows.{written}
-use Rattle.season.specs.Table.{Table, Ending, final}
+use Rattle.season.specs.Table.{Table, final}
 
 -- refused with 9 where an ending has not one byte for each match left, at its length, or a byte above 2, at the match
 abbrev pub unless_no_ending : {A : Type 0} → List ℕ → ℕ → Told A → Told A
@@ -16,16 +15,6 @@ unless_no_ending xs games after =
 -- refused with 9 at 0 where a team is not there
 abbrev pub unless_absent : {A : Type 0} → ℕ → ℕ → Told A → Told A
 unless_absent team teams after = unless (nat_le teams team) 9 0 after
-
--- a table within the limits, and a team of it
-pub record OfTable (t : Table) (team : ℕ) : Type 0 where
-  pub within : Within t
-  pub there : team < t.teams
-
--- the same, and an ending of its matches
-pub record Ended (t : Table) (xs : List ℕ) (team : ℕ) : Type 0 where
-  pub team_of : OfTable t team
-  pub ending : Ending t.left xs
 
 -- the answer for a table's file and an ending: the reader's refusals come first
 abbrev pub outcome_ended : List ℕ → List ℕ → ℕ → Told Sizes

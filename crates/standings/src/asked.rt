@@ -5,6 +5,7 @@ ghost use Rattle.standings.specs.Asked.{unless_absent, unless_no_ending};
 
 use crate::gains::SHARED;
 use season::refusal::Refusal;
+use season::rows::refuse_first;
 use season::table::Sizes;
 
 // Refuses a team that is not there.
@@ -24,10 +25,10 @@ pub fn check_ending(ending: &[u8], sizes: Sizes) -> Result<Sizes, Refusal>
     if ending.len() != sizes.games {
         return Err(Refusal::AuditEnding(ending.len()));
     }
-    for (k, points) in ending.iter().enumerate() {
-        if *points > SHARED {
-            return Err(Refusal::AuditEnding(k));
-        }
-    }
-    Ok(sizes)
+    refuse_first(
+        ending,
+        |points| *points > SHARED,
+        Refusal::AuditEnding,
+        sizes,
+    )
 }

@@ -1,38 +1,28 @@
-// Theorems about results and endings. Each function's contract is the theorem; what it returns says nothing.
+// Theorems about results and endings. Each function's contract is the theorem.
 ghost use Rattle.season.specs.Promise.{PointsAdd, Sure};
 ghost use Rattle.standings.specs.Theorems.{FullRow, InParts, PointsKept};
 
 // All points after an ending are those of the table and two for each game left.
-pub fn points_add() -> u8
+pub fn points_add()
     ensures { PointsAdd }
-{
-    0
-}
+{}
 
 // A team is sure to be first just if no other can come to more than it has.
-pub fn sure_if_none_can_pass() -> u8
+pub fn sure_if_none_can_pass()
     ensures { Sure }
-{
-    0
-}
+{}
 
 // A full row of results leaves no game, and the points of that ending.
-pub fn full_row_is_the_ending() -> u8
+pub fn full_row_is_the_ending()
     ensures { FullRow }
-{
-    0
-}
+{}
 
 // Results played one part after the other make the table that both together make.
-pub fn results_in_parts() -> u8
+pub fn results_in_parts()
     ensures { InParts }
-{
-    0
-}
+{}
 
 // The points of all teams and two for each game left, together, are the same after results as before.
-pub fn results_keep_points() -> u8
+pub fn results_keep_points()
     ensures { PointsKept }
-{
-    0
-}
+{}

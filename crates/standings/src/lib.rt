@@ -5,5 +5,7 @@ pub mod asked;
 pub mod endings;
 pub mod gains;
 pub mod laws;
+mod own;
 pub mod results;
 pub mod sure;
+pub mod table;

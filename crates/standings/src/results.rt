@@ -1,46 +1,41 @@
 // Results, a row of bytes beside a row of games: 0, 1 and 2 are the host's points; any other byte, or none, is a game not yet
 // played. What they make of a table: new points, and fewer games left.
-ghost use Rattle.std.specs.Prelude.{◌≡◌, ◌≤◌, ◌++◌, map, length, take, drop, IfOk};
-ghost use Rattle.season.specs.Encoding.{Within, match_of, table_held, table_in};
+ghost use Rattle.std.specs.Prelude.{◌≡◌, ◌<◌, ◌≤◌, ◌++◌, map, length, take, drop, IfOk};
+ghost use Rattle.season.specs.Encoding.{Within, match_of, sizes_of, table_held, table_in};
 ghost use Rattle.season.specs.Reading.{unless_at};
 ghost use Rattle.season.specs.Refused.{told, given};
 ghost use Rattle.season.specs.Rows.{written};
-ghost use Rattle.standings.specs.Asked.{OfTable};
+ghost use Rattle.standings.specs.Held.{held};
 ghost use Rattle.standings.specs.Results.{Low, Played, after, game_of, games_then, outcome_after, passes_limit};
 ghost use Rattle.standings.specs.Results.{points_then, told_after, unplayed};
 
-use crate::gains::{gained_by, is_played, points_with};
+use crate::gains::{gained_by, is_played};
+use crate::own::OwnTable;
+use crate::table::Table;
 use season::game::Game;
-use season::plan::MOST_TEAMS;
 use season::refusal::Refusal;
-use season::table::{MOST_GAMES, MOST_POINTS, Sizes, read_table};
+use season::table::{MOST_POINTS, Sizes};
 
-// Whether a team would have more than 1,000 points after the results.
-fn passes_limit(points: &[u16], games: &[Game], results: &[u8], team: usize) -> bool
-    requires { OfTable (table_held points.now games.now) team }
-    ensures { result ≡ passes_limit (after (table_held points.now games.now) results.now) team }
-{
-    points_with(points, games, results, team) > MOST_POINTS
-}
-
-// Refuses results after which a team would have more than 1,000 points.
-fn check_gains(
-    points: &[u16],
-    games: &[Game],
-    results: &[u8],
-    sizes: Sizes,
-) -> Result<Sizes, Refusal>
-    requires { Within (table_held points.now games.now) }
-    ensures { told result ≡ unless_at
-        (passes_limit (after (table_held points.now games.now) results.now))
-        (length points.now) 4 (given sizes) }
-{
-    for team in 0..points.len() {
-        if passes_limit(points, games, results, team) {
-            return Err(Refusal::PointsAbove(team));
-        }
+impl Table<'_> {
+    // Whether a team would have more than 1,000 points after the results.
+    fn passes_limit(self, results: &[u8], team: usize) -> bool
+        requires { team < length self.points.now }
+        ensures { result ≡ passes_limit (after (held self.entry) results.now) team }
+    {
+        self.points_with(results, team) > MOST_POINTS
     }
-    Ok(sizes)
+
+    // Refuses results after which a team would have more than 1,000 points; else the sizes of the table.
+    fn check_gains(self, results: &[u8]) -> Result<Sizes, Refusal>
+        ensures { told result ≡ unless_at (passes_limit (after (held self.entry) results.now))
+            (held self.entry).teams 4 (given (sizes_of (held self.entry))) }
+    {
+        let Some(team) = (0..self.points.len()).find(|team| self.passes_limit(results, *team))
+        else {
+            return Ok(self.sizes());
+        };
+        Err(Refusal::PointsAbove(team))
+    }
 }
 
 // Adds what each team gained.
@@ -51,12 +46,13 @@ fn add_gains(points: &mut [u16], games: &[Game], results: &[u8])
         (after (table_held points.old games.now) results.now).points
         (length points.old) points.old }
 {
-    for team in 0..points.len() {
-        points[team] += gained_by(games, results, team);
+    for (team, had) in points.iter_mut().enumerate() {
+        *had += gained_by(games, results, team);
     }
 }
 
-// Moves the games without a result to the front, in order, and answers how many there are.
+// Moves the games without a result to the front, in order, and answers how many there are. It counts places, since a lent row has
+// no `retain`, and an iterator over the row would keep it from being written.
 fn keep_unplayed(games: &mut [Game], results: &[u8]) -> usize
     ensures answer { result ≡ length (unplayed (map match_of games.old) results.now) }
     ensures games { games.new ≡
@@ -88,44 +84,19 @@ pub fn play_results(
     ensures played { IfOk result (λ s. Played (table_held points.old games.old) results.now s
         points.new games.new) }
 {
-    let sizes = Sizes {
-        teams: points.len(),
-        games: games.len(),
-    };
-    let checked = check_gains(points, games, results, sizes);
-    let Ok(sizes) = checked else {
-        return checked;
-    };
+    let table = Table { points, games };
+    let sizes = table.check_gains(results)?;
     add_gains(points, games, results);
     let games = keep_unplayed(games, results);
     Ok(Sizes { games, ..sizes })
 }
 
-// Reads a table's file and plays the results, all in the memory given. Answers as `table_after` does.
-fn read_and_play(
-    file: &[u8],
-    results: &[u8],
-    points: &mut [u16],
-    row: &mut [Game],
-) -> Result<Sizes, Refusal>
-    ensures answer { told result ≡ outcome_after file.now results.now
-        (length row.old) (length points.old) }
-    ensures played { IfOk result (λ s. Played (table_in file.now) results.now s
-        points.new row.new) }
+// Copies a row to the front of another.
+fn copy_front<T: Copy>(to: &mut [T], from: &[T])
+    requires { length from.now ≤ length to.old }
+    ensures { to.new ≡ from.now ++ drop (length from.now) to.old }
 {
-    let checked = read_table(file, points, row);
-    let Ok(Sizes { teams, games }) = checked else {
-        return checked;
-    };
-    play_results(&mut points[0..teams], &mut row[0..games], results)
-}
-
-// Copies the first `n` of one row to the front of another.
-fn copy_front<T: Copy>(to: &mut [T], from: &[T], n: usize)
-    requires { (n ≤ length to.old) × (n ≤ length from.now) }
-    ensures { to.new ≡ take n from.now ++ drop n to.old }
-{
-    to[0..n].copy_from_slice(&from[0..n]);
+    to[..from.len()].copy_from_slice(from);
 }
 
 // The table of a file after the results, into lent memory: the new points, and the games still left, in order. Answers the sizes,
@@ -145,15 +116,13 @@ pub fn table_after(
     ensures played { IfOk result (λ s. Played (table_in file.now) results.now s
         points.new row.new) }
 {
-    let mut own_points = [0u16; MOST_TEAMS];
-    let mut own_row = [Game { host: 0, guest: 0 }; MOST_GAMES];
-    let new_points = &mut own_points[0..points.len().min(MOST_TEAMS)];
-    let new_row = &mut own_row[0..row.len().min(MOST_GAMES)];
-    let played = read_and_play(file, results, new_points, new_row);
-    let Ok(sizes) = played else {
-        return played;
+    let room = Sizes {
+        teams: points.len(),
+        games: row.len(),
     };
-    copy_front(points, new_points, sizes.teams);
-    copy_front(row, new_row, sizes.games);
-    Ok(sizes)
+    let own = OwnTable::read(file, room)?.play(results)?;
+    let table = own.lend();
+    copy_front(points, table.points);
+    copy_front(row, table.games);
+    Ok(own.sizes)
 }

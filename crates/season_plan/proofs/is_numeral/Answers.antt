@@ -1,13 +1,14 @@
--- What follows the plus is the rest of the bytes.
-use Rattle.std.proofs.Common.{ℕ, List, Decides, sym, ap, ◌∙◌, subst}
-use Rattle.std.proofs.lemmas.List.{take_rest}
-use Rattle.std.proofs.lemmas.Str.Parse.{without_leading_plus_plus}
+-- What is left without a plus is a numeral if there is any of it, and its bytes are digits.
+use Rattle.std.proofs.Common.{rules, ◌≡◌, ◌<◌, ℕ, true, ◌↔◌, List, Decides, length, subst}
 use Rattle.std.specs.Str.Parse.{IsNumeral, without_leading_plus}
+use Rattle.season_plan.proofs.Digits.{AllDigits, by_bytes}
 use Rattle.season_plan.proofs.is_numeral.Goals as goal
 
-pub returns-then-bytes-eq43 : goal.returns-then-bytes-eq43
-returns-then-bytes-eq43 c =
-    let bytes = c.as_bytes-bytes.result.now in
-    let plus = sym (without_leading_plus_plus bytes c.if-bytes-eq43.true) in
-    let rest = take_rest bytes 1 ∙ plus ∙ ap without_leading_plus c.as_bytes-bytes.ensures.value in
-    subst (λ (ds : List ℕ). Decides c.all_digits.result (IsNumeral 10 ds)) rest c.all_digits.ensures
+pub returns-then-not-is_empty : goal.returns-then-not-is_empty
+returns-then-not-is_empty c =
+    let digits = c.unwrap_or-digits.result.now in
+    let some : 0 < length digits = search rules in
+    let rest : digits ≡ without_leading_plus c.args.text.now = search rules in
+    let all : (c.all.result ≡ true) ↔ AllDigits digits = search rules in
+    let P : List ℕ → Type 0 = λ ds. Decides c.all.result (IsNumeral 10 ds) in
+    subst P rest (λ e. (some, by_bytes.to digits (all.0 e)), λ n. all.1 (by_bytes.from digits n.1))

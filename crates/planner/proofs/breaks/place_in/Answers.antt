@@ -1,16 +1,14 @@
-use Rattle.std.proofs.Common.{◌≡◌, ◌-◌, length, sym, arith}
-use Rattle.std.proofs.lemmas.Bool.{eq-eqb, ne_eqb}
+use Rattle.std.proofs.Common.{◌≡◌, ℕ, length, nat_eq, get_or, rules, ap, ◌∙◌}
+use Rattle.std.proofs.lemmas.List.{get_or_default}
+use borrow.Author.Tests.{tests}
+use Rattle.season.proofs.First.{Found, found_in_row, place_found}
 use Rattle.planner.proofs.breaks.place_in.Goals as goal
-use Rattle.season.proofs.First.{first_found, passed_more}
-
-pub returns-then-b-team : goal.returns-then-b-team
-returns-then-b-team c = sym (first_found _ _ _ c.loop-k-test.true (eq-eqb _ _ c.if-b-team.true) c.loop-k.invariant)
 
 pub returns : goal.returns
 returns c =
-    let e : c.loop-k.k ≡ length c.args.round.now = omega arith in
-    let z : length c.args.round.now - length c.args.round.now ≡ 0 = omega arith in
-    rw z at (rw e at c.loop-k.invariant)
-
-pub loop-k-preserved : goal.loop-k-preserved
-loop-k-preserved c = passed_more _ _ _ c.loop-k-test.true (ne_eqb _ _ c.if-b-team.false) c.loop-k.invariant
+    let round = c.args.round.now in
+    let is_team = λ (b : ℕ). nat_eq b c.args.team in
+    let found : Found (λ k. is_team (get_or round k 0)) (length round) c.position.result =
+    found_in_row _ (λ b said. said ≡ is_team b) _ round c.position.ensures.ran (cc)
+    (λ x b q k. search (rules, tests)) (λ k d b l said. said ∙ ap is_team (get_or_default round k d 0 l)) in
+    c.unwrap_or.ensures ∙ place_found found

@@ -16,13 +16,13 @@ returns c =
     let n = c.args.n in
     let old = c.args.plan.now in
     let plan = c.write_rounds.new.plan in
-    let checked = c.in-Ok.ensures in
+    let checked = c.in_ok-teams.ensures in
     let fitting = checked.fitting.1 in
     let bytes : plan ≡ with_plan n old = rw checked.fitting.0 at c.write_rounds.ensures in
-    let counted : c.breaks_in.result ≡ breaks n (plan_of n plan) = rw checked.fitting.0 at c.breaks_in.ensures in
+    let counted : c.breaks.result ≡ breaks n (plan_of n plan) = rw checked.fitting.0 at c.breaks.ensures in
     let agree : Agree n (plan_of n plan) (circle n) = rw bytes (bytes_agree n old fitting.some_teams fitting.even_teams) in
     let all = planned n fitting.some_teams fitting.even_teams in
-    let count : c.breaks_in.result ≡ n - 2 = counted ∙ breaks_agree agree ∙ all.1 in
+    let count : c.breaks.result ≡ n - 2 = counted ∙ breaks_agree agree ∙ all.1 in
     record {
       answer = grind (arith, nat_tests);
       bytes = bytes;

@@ -4,5 +4,5 @@ use Rattle.planner.proofs.circle.write_rounds.Given as goal
 use Rattle.planner.specs.Circle.{plan_byte}
 use Rattle.season.specs.Rows.{written}
 
-abbrev pub invariant-loop-r : goal.invariant-loop-r
-invariant-loop-r l = l.plan ≡ written (plan_byte l.n) (l.r * l.n) l.initial.plan
+abbrev pub invariant-loop-number : goal.invariant-loop-number
+invariant-loop-number l = l.plan ≡ written (plan_byte l.teams) (l.number * l.teams) l.initial.plan

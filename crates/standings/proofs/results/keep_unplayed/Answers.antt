@@ -1,5 +1,5 @@
 use Rattle.std.proofs.Common.{sym, ◌∙◌, arith}
-use Rattle.standings.proofs.Kept.{kept_none, kept_few, kept_played, kept_left, kept_all}
+use Rattle.standings.proofs.Kept.{kept_none, kept_few, kept_played, kept_left}
 use Rattle.standings.proofs.results.keep_unplayed.Goals as goal
 use Rattle.standings.proofs.results.keep_unplayed.Goals.{then-not-is_played, else-not-is_played}
 
@@ -8,12 +8,6 @@ loop-k-init c = kept_none _ _
 
 pub bounds-games-left : goal.bounds-games-left
 bounds-games-left c = omega (arith, kept_few c.loop-k.invariant)
-
-pub offset_bounds-games-left : goal.offset_bounds-games-left
-offset_bounds-games-left c = omega (arith, kept_few c.loop-k.invariant)
-
-pub overflow_add-left : goal.overflow_add-left
-overflow_add-left c = omega (arith, kept_few c.loop-k.invariant)
 
 pub loop-k-preserved : goal.loop-k-preserved
 loop-k-preserved c =
@@ -25,8 +19,3 @@ loop-k-preserved c =
           let played = sym c.is_played.ensures ∙ w.if-not-is_played.false in
           rw (w.games-is, w.left-is) (kept_played c.loop-k.invariant c.loop-k-test.true played)
     ]
-
-pub returns : goal.returns
-returns c =
-    let all = kept_all c.loop-k.invariant c.loop-k-test.false in
-    record { answer = all.0; games = all.1 }

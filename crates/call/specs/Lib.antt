@@ -1,0 +1,2 @@
+-- What words ask for, and the status that a program ends with.
+pub mod Call
