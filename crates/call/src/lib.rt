@@ -27,40 +27,6 @@ fn asks_help(word: &str) -> bool
     word == "--help" || word == "-h"
 }
 
-// What words ask for, of which one is expected at most: what the one word means, or none, is for `meant` to say.
-fn read<T, F>(heap: Global, mut words: Args, expected: &str, meant: F) -> io::Result<Asked<T>>
-where
-    F: FnOnce(Option<String>) -> io::Result<Asked<T>> + Drop,
-    requires { F.IsAlwaysCallable meant }
-    ensures { Reads (F.post meant) expected.now (into_iter_items words) result }
-{
-    let Some(word) = words.next() else {
-        return meant(None);
-    };
-    if let Some(more) = words.next() {
-        return Ok(Asked::Unclear(format!(in heap;
-            "{expected} is expected, and `{more}` is too much"
-        )?));
-    }
-    if asks_help(word.as_str()) {
-        return Ok(Asked::Help);
-    }
-    meant(Some(word))
-}
-
-// What the words of this call ask for, after the program's name, unless they cannot be read.
-fn read_words<R, T, F>(rt: &R, expected: &str, meant: F) -> io::Result<Asked<T>>
-where
-    R: Env + AllocGlobal,
-    F: FnOnce(Option<String>) -> io::Result<Asked<T>> + Drop,
-    requires { F.IsAlwaysCallable meant }
-    ensures { ReadsSome (F.post meant) expected.now result }
-{
-    let mut words = env::args(rt)?;
-    let _name = words.next();
-    read(rt.alloc(), words, expected, meant)
-}
-
 // Prints a refusal, which is an answer too, and has the program end with status 1.
 pub fn refuse(rt: &impl Print, refusal: impl Display + Drop) -> io::Result<ExitCode>
     ensures { Fails result }
@@ -69,14 +35,51 @@ pub fn refuse(rt: &impl Print, refusal: impl Display + Drop) -> io::Result<ExitC
     Ok(ExitCode::FAILURE)
 }
 
-// A program by its name, and by what it says of how it is called.
+// A program by its name, by what its one word is expected to be, as in `one file`, and by what it says of how it is called.
 #[derive(Clone, Copy)]
 pub struct Program<'a> {
     pub name: &'a str,
+    pub expected: &'a str,
     pub usage: &'a str,
 }
 
 impl Program<'_> {
+    // What words ask for, of which one is expected at most: what the one word means, or none, is for `meant` to say.
+    fn read<T, F>(&self, heap: Global, mut words: Args, meant: F) -> io::Result<Asked<T>>
+    where
+        F: FnOnce(Option<String>) -> io::Result<Asked<T>> + Drop,
+        requires { F.IsAlwaysCallable meant }
+        ensures { Reads (F.post meant) self.now.expected.now (into_iter_items words) result }
+    {
+        let Some(word) = words.next() else {
+            return meant(None);
+        };
+        if let Some(more) = words.next() {
+            let expected = self.expected;
+            return Ok(Asked::Unclear(format!(in heap;
+                "{expected} is expected, and `{more}` is too much"
+            )?));
+        }
+        if asks_help(word.as_str()) {
+            return Ok(Asked::Help);
+        }
+        meant(Some(word))
+    }
+
+    // What the words of this call ask for, after the program's name, unless they cannot be read.
+    fn read_words<R, T, F>(&self, rt: &R, meant: F) -> io::Result<Asked<T>>
+    where
+        R: Env + AllocGlobal,
+        F: FnOnce(Option<String>) -> io::Result<Asked<T>> + Drop,
+        requires { F.IsAlwaysCallable meant }
+        ensures { ReadsSome (F.post meant) self.now.expected.now result }
+    {
+        // The name is taken off here and not by `skip`, so that `read` is given words and can promise something of them.
+        let mut words = env::args(rt)?;
+        let _name = words.next();
+        self.read(rt.alloc(), words, meant)
+    }
+
     // Says on standard error why the program fails, and has it end with status 1.
     pub fn fail(&self, rt: &impl Eprint, why: impl Display + Drop) -> io::Result<ExitCode>
         ensures { Fails result }
@@ -111,16 +114,16 @@ impl Program<'_> {
 
     // Has `tell` answer what the words of this call ask for, and gives the status that the program ends with. It is 1 where that could
     // not be done: of a failed write, or of memory that has run out, only the status tells, and all else has been told of by then.
-    pub fn run<R, T, M, F>(&self, rt: &R, expected: &str, meant: M, tell: F) -> ExitCode
+    pub fn run<R, T, M, F>(&self, rt: &R, meant: M, tell: F) -> ExitCode
     where
         R: Env + AllocGlobal + Print + Eprint,
         M: FnOnce(Option<String>) -> io::Result<Asked<T>> + Drop,
         F: FnOnce(T) -> io::Result<ExitCode> + Drop,
         requires word { M.IsAlwaysCallable meant }
         requires told { F.IsAlwaysCallable tell }
-        ensures { (asked : _) × ReadsSome (M.post meant) expected.now asked × EndsWith (F.post tell) asked result }
+        ensures { (asked : _) × ReadsSome (M.post meant) self.now.expected.now asked × EndsWith (F.post tell) asked result }
     {
-        let asked = read_words(rt, expected, meant);
+        let asked = self.read_words(rt, meant);
         self.answer(rt, asked, tell).unwrap_or(ExitCode::FAILURE)
     }
 }

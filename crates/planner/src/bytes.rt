@@ -30,11 +30,7 @@ pub(crate) fn check_plan(n: usize, bytes: usize) -> Result<usize, Refusal>
     ensures answer { told result ≡ unless_unfit n bytes (given n) }
     ensures fitting { IfOk result (λ teams. (teams ≡ n) × Fitting n bytes) }
 {
-    // In a list of checks each hands on what it answers, or its refusal, by `let .. else`, since what is told depends on the order.
-    let checked = plan_teams(n);
-    let Ok(teams) = checked else {
-        return checked;
-    };
+    let teams = plan_teams(n)?;
     if bytes < (teams - 1) * teams {
         return Err(Refusal::MemoryShort(Lent::Row));
     }

@@ -57,7 +57,8 @@ impl CircleRound {
         meeting(k % 2 == 1, ahead, behind)
     }
 
-    // Byte `p` of the round: the host of a game at an even place, the guest at an odd one.
+    // Byte `p` of the round: the host of a game at an even place, the guest at an odd one. Bytes and not games are written, since of
+    // the pairs that `as_chunks_mut` cuts the library does not say what they end as.
     fn byte(&self, p: usize) -> u8
         requires { p < self.now.teams }
         ensures { result ≡ round_byte self.now.teams self.now.number p }
@@ -80,8 +81,8 @@ fn write_rounds(teams: usize, plan: &mut [u8])
     requires { Fitting teams (length plan.old) }
     ensures { plan.new ≡ with_plan teams plan.old }
 {
-    // Each round is handed on as the part of the bytes that it is, cut by its place: of the parts that `chunks_exact_mut` cuts, the
-    // library does not say what they end as.
+    // By a rule of the project each round is handed on as the part of the bytes that it is. It is cut by its place, since of the parts
+    // that `chunks_exact_mut` cuts the library does not say what they end as.
     for number in 0..teams - 1 {
         let round = CircleRound { teams, number };
         round.write(&mut plan[number * teams..(number + 1) * teams]);

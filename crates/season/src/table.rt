@@ -194,8 +194,8 @@ fn check_points_whole(file: &[u8], sizes: Sizes) -> Result<Sizes, Refusal>
     Ok(sizes)
 }
 
-// The checks of a table's file, one after the other: each hands on the sizes, or its refusal is the answer. In such a list that is
-// written out, by `let .. else` and not by `?`, since what is told depends on the order.
+// The checks of a table's file, one after the other: each hands on the sizes, or its refusal is the answer. By a rule of
+// the project this list is written out by `let .. else`, check below check, as the rules stand in the document.
 fn check_file(file: &[u8], room: Sizes) -> Result<Sizes, Refusal>
     ensures { told result ≡ outcome file.now room.games room.teams }
 {
@@ -227,7 +227,7 @@ fn check_file(file: &[u8], room: Sizes) -> Result<Sizes, Refusal>
     table.check_two_teams()
 }
 
-// Checks the whole file before the first write.
+// Checks the whole file before the first write. `read_table` promises the same, and what follows from it.
 fn read_checked(file: &[u8], points: &mut [u16], row: &mut [Game]) -> Result<Sizes, Refusal>
     ensures answer { told result ≡ outcome file.now (length row.old) (length points.old) }
     ensures points { points.new ≡ points_after (told result) file.now points.old }

@@ -27,6 +27,7 @@ example: season_first table.bin";
 // The program, as its calls are answered.
 const PROGRAM: Program = Program {
     name: "season_first",
+    expected: "one file",
     usage: USAGE,
 };
 
@@ -80,7 +81,6 @@ fn tell_file(rt: &HostRuntime, path: Option<String>) -> io::Result<ExitCode> {
 fn main(rt: HostRuntime) -> ExitCode {
     PROGRAM.run(
         &rt,
-        "one file",
         |path| Ok(Asked::For(path)),
         |path| tell_file(&rt, path),
     )

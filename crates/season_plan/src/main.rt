@@ -31,13 +31,15 @@ example: season_plan 20";
 // The program, as its calls are answered.
 const PROGRAM: Program = Program {
     name: "season_plan",
+    expected: "one number of teams",
     usage: USAGE,
 };
 
 // The most teams that this program has memory for.
 const TEAMS: usize = 32;
 
-// Whether a text is a numeral: digits, with a plus before them or not.
+// Whether a text is a numeral: digits, with a plus before them or not. The library's `parse` cannot tell, since it calls too large as
+// well what is no numeral, but begins with a large one.
 fn is_numeral(text: &str) -> bool
     ensures { Decides result (IsNumeral 10 (without_leading_plus text.now)) }
 {
@@ -52,7 +54,6 @@ fn number_in(text: &str) -> Option<usize>
 {
     match text.parse::<usize>() {
         Ok(n) => Some(n),
-        // That a number is too large is said as well of what is no numeral, but begins with a large one.
         Err(_) if is_numeral(text) => Some(usize::MAX),
         Err(_) => None,
     }
@@ -112,10 +113,5 @@ fn tell(rt: &HostRuntime, n: usize) -> io::Result<ExitCode>
 
 // Prints the plan for as many teams as the one word says, or how the program is called.
 fn main(rt: HostRuntime) -> ExitCode {
-    PROGRAM.run(
-        &rt,
-        "one number of teams",
-        |word| asked_by(rt.alloc(), word),
-        |n| tell(&rt, n),
-    )
+    PROGRAM.run(&rt, |word| asked_by(rt.alloc(), word), |n| tell(&rt, n))
 }

@@ -11,6 +11,7 @@ use std::test::Fail;
 // A program that ends with the status that its one word says.
 const PROGRAM: Program = Program {
     name: "end",
+    expected: "one status",
     usage: "usage: end STATUS",
 };
 
@@ -83,7 +84,6 @@ fn ended(rt: &HostRuntime, line: &str) -> ExitCode {
     let called = Called { rt, line };
     PROGRAM.run(
         &called,
-        "one status",
         |word| asked_by(rt.alloc(), word),
         |status| Ok(ExitCode::from(status)),
     )
@@ -112,14 +112,12 @@ fn words_ask_for_a_status_or_for_the_usage(rt: HostRuntime) {
 fn what_cannot_be_meant_or_told_has_status_1(rt: HostRuntime) {
     let unmeant = PROGRAM.run(
         &rt,
-        "one status",
         |_| Err(io::Error::from(io::ErrorKind::InvalidData)),
         |status: u8| Ok(ExitCode::from(status)),
     );
     assert_eq!(rt; unmeant, ExitCode::FAILURE);
     let untold = PROGRAM.run(
         &rt,
-        "one status",
         |_| Ok(Asked::For(())),
         |_| Err(io::Error::from(io::ErrorKind::NotFound)),
     );

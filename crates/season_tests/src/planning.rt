@@ -68,7 +68,7 @@ impl<'a> Rounds<'a> {
             .count()
     }
 
-    // The breaks of all teams.
+    // The breaks of all teams. By `fold`, since a `sum` would have a bound proved.
     fn breaks(self) -> usize {
         (0..self.teams).fold(0, |sum: usize, team| {
             sum.saturating_add(self.breaks_of(team))

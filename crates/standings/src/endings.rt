@@ -15,7 +15,8 @@ use season::rows::write_front;
 use season::table::Sizes;
 
 impl Table<'_> {
-    // The points of a team after an ending.
+    // The points of a team after an ending. That the bytes are one each method asks for itself: they are lent as they came, and
+    // `check_ending` tells.
     pub fn final_points(self, ending: &[u8], team: usize) -> u16
         requires ending { Ending (held self).left ending.now }
         requires team { team < length self.points.now }

@@ -40,7 +40,8 @@ fn share_in(game: Game, points: u8, team: usize) -> u16
     share_at(game.host, points, team) + share_at(game.guest, SHARED - points, team)
 }
 
-// What a team gained in the games with a result.
+// What a team gained in the games with a result. A row of results may be longer or shorter than any row of games that it is lent beside,
+// so the two are no type.
 pub(crate) fn gained_by(games: &[Game], results: &[u8], team: usize) -> u16
     requires { length games.now ≤ 1024 }
     ensures { result ≡ won (map match_of games.now) results.now team }

@@ -25,7 +25,8 @@ impl Table<'_> {
         self.points_with(results, team) > MOST_POINTS
     }
 
-    // Refuses results after which a team would have more than 1,000 points; else the sizes of the table.
+    // Refuses results after which a team would have more than 1,000 points; else the sizes of the table. It goes by the number of a
+    // team, and not by `refuse_first`, since the points of a team after results follow from the whole table.
     fn check_gains(self, results: &[u8]) -> Result<Sizes, Refusal>
         ensures { told result ≡ unless_at (passes_limit (after (held self.entry) results.now))
             (held self.entry).teams 4 (given (sizes_of (held self.entry))) }
@@ -69,7 +70,8 @@ fn keep_unplayed(games: &mut [Game], results: &[u8]) -> usize
 }
 
 // The table after the results, of a table that was read: the new points, and the games still left in front, in order. Answers
-// the sizes, or refuses a team whose points would pass 1,000, and then nothing has changed.
+// the sizes, or refuses a team whose points would pass 1,000, and then nothing has changed. It writes both rows, and so takes them as
+// they are and not as a `Table`.
 pub fn play_results(
     points: &mut [u16],
     games: &mut [Game],
