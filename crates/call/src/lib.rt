@@ -44,7 +44,8 @@ pub struct Program<'a> {
 }
 
 impl Program<'_> {
-    // What words ask for, of which one is expected at most: what the one word means, or none, is for `meant` to say.
+    // What words ask for, of which one is expected at most: what the one word means, or none, is for `meant` to say. That `meant` may be
+    // called each function asks that it is passed through, since only the caller can show it of a closure.
     fn read<T, F>(&self, heap: Global, mut words: Args, meant: F) -> io::Result<Asked<T>>
     where
         F: FnOnce(Option<String>) -> io::Result<Asked<T>> + Drop,

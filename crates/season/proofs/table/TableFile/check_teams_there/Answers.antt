@@ -15,6 +15,6 @@ returns c =
     let told = c.refuse_first.ensures (absent bytes sizes.teams) 6 (λ k d b l says.
     let there : k < sizes.games = rw long at l in
     let answer : b ≡ outside (game_at says.shown.now 0) = search rules in
-    answer ∙ ap (outside) (game_there sizes.games bytes k d there c.games.ensures says.shows))
+    answer ∙ ap outside (game_there sizes.games bytes k d there c.games.ensures says.shows))
     (λ k e called. search rules) in
     told ∙ ap (λ n. unless_at (absent bytes sizes.teams) n 6 (given sizes)) long
