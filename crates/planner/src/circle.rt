@@ -1,13 +1,12 @@
 // The plan by circles, written into lent memory round by round.
-ghost use Rattle.std.specs.Prelude.{◌≡◌, ◌-◌, ◌/◌, ◌%◌, ◌<◌, ◌≤◌, pos, length, IfOk, OnOk};
+ghost use Rattle.std.specs.Prelude.{◌≡◌, ◌+◌, ◌-◌, ◌%◌, ◌<◌, ◌≤◌, pos, length, if◌then◌else◌, IfOk, OnOk};
 ghost use Rattle.std.specs.Int.{int_rem_euclid};
-ghost use Rattle.planner.specs.Circle.{Fitting, game_of, meeting, plan_after, round_byte, round_bytes, unless_unfit, with_plan};
+ghost use Rattle.planner.specs.Circle.{Fitting, plan_after, round_byte, round_bytes, unless_unfit, with_plan};
 ghost use Rattle.season.specs.Bytes.{plan_of};
-ghost use Rattle.season.specs.Plan.{Agree, BestPlan, breaks, circle};
+ghost use Rattle.season.specs.Plan.{Agree, BestPlan, breaks, circle, rest};
 ghost use Rattle.season.specs.Refused.{told, given};
 
 use crate::bytes::{PlanBytes, check_plan};
-use season::game::Game;
 use season::refusal::Refusal;
 use season::rows::write_front;
 
@@ -21,17 +20,6 @@ struct CircleRound {
     ghost there: { number < teams - 1 },
 }
 
-// The game of two teams, the first at home or the second.
-fn meeting(first_home: bool, a: u8, b: u8) -> Game
-    ensures { result ≡ meeting first_home a b }
-{
-    if first_home {
-        Game { host: a, guest: b }
-    } else {
-        Game { host: b, guest: a }
-    }
-}
-
 impl CircleRound {
     // The team at a place of the circle, on which all teams but the last stand; below 0 it is counted back from the end.
     fn team_at(&self, place: i32) -> u8
@@ -41,30 +29,42 @@ impl CircleRound {
         place.rem_euclid((self.teams - 1) as i32) as u8
     }
 
-    // Game `k` of the round.
-    fn game(&self, k: usize) -> Game
-        requires { k < self.now.teams / 2 }
-        ensures { result ≡ game_of self.now.teams self.now.number k }
+    // The team `k` places ahead of the round's number on the circle, or behind it.
+    fn team_beside(&self, k: usize, ahead: bool) -> u8
+        requires { k < self.now.teams - 1 }
+        ensures { result ≡ rest (self.now.teams - 1)
+            (if ahead then self.now.number + k else self.now.number + (self.now.teams - 1) - k) }
     {
-        if k == 0 {
-            let last = self.teams - 1;
-            return meeting(self.number % 2 == 0, last as u8, self.number as u8);
-        }
         let own = self.number as i32;
         let apart = k as i32;
-        let ahead = self.team_at(own + apart);
-        let behind = self.team_at(own - apart);
-        meeting(k % 2 == 1, ahead, behind)
+        if ahead {
+            self.team_at(own + apart)
+        } else {
+            self.team_at(own - apart)
+        }
     }
 
     // Byte `p` of the round: the host of a game at an even place, the guest at an odd one. Bytes and not games are written, since of
-    // the pairs that `as_chunks_mut` cuts the library does not say what they end as.
+    // the pairs that `as_chunks_mut` cuts the library does not say what they end as; so that no game is reckoned twice, each byte is
+    // reckoned without the other of its game.
+    #[tactic(auto, unfolding(crate::specs::Circle::round_byte))]
     fn byte(&self, p: usize) -> u8
         requires { p < self.now.teams }
         ensures { result ≡ round_byte self.now.teams self.now.number p }
     {
-        let game = self.game(p / 2);
-        if p % 2 == 0 { game.host } else { game.guest }
+        let game = p / 2;
+        let is_host = p % 2 == 0;
+        if game == 0 {
+            let last = self.teams - 1;
+            let last_is_host = self.number % 2 == 0;
+            return if is_host == last_is_host {
+                last as u8
+            } else {
+                self.number as u8
+            };
+        }
+        let ahead_is_host = game % 2 == 1;
+        self.team_beside(game, is_host == ahead_is_host)
     }
 
     // Writes the games of the round into its part of the plan's bytes.
