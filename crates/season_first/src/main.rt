@@ -1,7 +1,7 @@
 // Reads a table's file, and says what it holds.
 #![tactic(auto)]
 
-ghost use Rattle.std.specs.Prelude.{◌≡◌, true, MatchResult};
+ghost use Rattle.std.specs.Prelude.{◌≡◌, true, false, IfOk, MatchResult};
 ghost use Rattle.call.specs.Call.{Fails, OnSuccess};
 ghost use Rattle.season.specs.Reading.{outcome};
 ghost use Rattle.season.specs.Refused.{is_given};
@@ -37,9 +37,10 @@ const TEAMS: usize = 32;
 // The most games that it has memory for.
 const GAMES: usize = 256;
 
-// Prints what the file holds, or the refusal. It ends well only if the file is taken.
+// Prints what the file holds, or the refusal. It ends well only if the file is taken, else with status 1.
 fn tell(rt: &HostRuntime, file: &[u8]) -> io::Result<ExitCode>
-    ensures { OnSuccess result (is_given (outcome file.now 256 32) ≡ true) }
+    ensures told { OnSuccess result (is_given (outcome file.now 256 32) ≡ true) }
+    ensures refused { is_given (outcome file.now 256 32) ≡ false → Fails result }
 {
     let mut points = [0u16; TEAMS];
     let mut row = [Game { host: 0, guest: 0 }; GAMES];
@@ -52,9 +53,10 @@ fn tell(rt: &HostRuntime, file: &[u8]) -> io::Result<ExitCode>
     }
 }
 
-// Tells of the file that was read, or says that it could not be. It ends well only if it was read, and is taken.
+// Tells of the file that was read, or says that it could not be. It ends well only if it was read, and is taken, else with status 1.
 fn go_on(rt: &HostRuntime, name: &str, read: io::Result<Vec<u8>>) -> io::Result<ExitCode>
-    ensures { MatchResult read (λ v. OnSuccess result (is_given (outcome v.items 256 32) ≡ true)) (λ _. Fails result) }
+    ensures told { MatchResult read (λ v. OnSuccess result (is_given (outcome v.items 256 32) ≡ true)) (λ _. Fails result) }
+    ensures refused { IfOk read (λ v. is_given (outcome v.items 256 32) ≡ false → Fails result) }
 {
     match read {
         Ok(file) => tell(rt, &file),

@@ -1,8 +1,8 @@
 // Prints the plan for a number of teams, with the fewest breaks there can be.
 #![tactic(auto)]
 
-ghost use Rattle.std.specs.Prelude.{◌≡◌, ◌/◌, ◌<◌, length, true, Decides, IfOk, string_bytes};
-ghost use Rattle.call.specs.Call.{OnSuccess};
+ghost use Rattle.std.specs.Prelude.{◌≡◌, ◌/◌, ◌<◌, length, true, false, Decides, IfOk, string_bytes};
+ghost use Rattle.call.specs.Call.{Fails, OnSuccess};
 ghost use Rattle.planner.specs.Circle.{plan_length, unless_unfit};
 ghost use Rattle.season.specs.Refused.{given, is_given};
 ghost use Rattle.season_plan.specs.Lines.{line_of};
@@ -12,6 +12,7 @@ ghost use Rattle.std.specs.Str.Parse.{IsNumeral, without_leading_plus};
 use call::{Asked, Program, refuse};
 use planner::circle::write_plan;
 use season::game::Game;
+use season::plan::round_in;
 use std::alloc::Global;
 use std::io;
 use std::process::ExitCode;
@@ -89,16 +90,17 @@ fn round_line(heap: Global, r: usize, round: &[u8]) -> io::Result<String>
 fn print_rounds(rt: &HostRuntime, n: usize, plan: &[u8]) -> io::Result<()>
     requires { 0 < n }
 {
-    for (r, round) in plan.chunks_exact(n).take(n - 1).enumerate() {
+    for (r, round) in (0..n - 1).map_while(|r| round_in(plan, n, r)).enumerate() {
         let line = round_line(rt.alloc(), r, round)?;
         println!(rt; "{line}")?;
     }
     Ok(())
 }
 
-// Prints the plan, or the refusal. It ends well only if a plan is made for so many teams, and there is memory for it.
+// Prints the plan, or the refusal. It ends well only if a plan is made for so many teams, and there is memory for it, else with status 1.
 fn tell(rt: &HostRuntime, n: usize) -> io::Result<ExitCode>
-    ensures { OnSuccess result (is_given (unless_unfit n (plan_length 32) (given n)) ≡ true) }
+    ensures told { OnSuccess result (is_given (unless_unfit n (plan_length 32) (given n)) ≡ true) }
+    ensures refused { is_given (unless_unfit n (plan_length 32) (given n)) ≡ false → Fails result }
 {
     let mut plan = [0u8; TEAMS * (TEAMS - 1)];
     match write_plan(n, &mut plan) {
