@@ -1,6 +1,6 @@
--- Rows of matches: how much a row can give a team, what one match more at its end leaves, and what is summed over a row of games.
-use Rattle.std.proofs.Common.{◌≡◌, ℕ, ◌+◌, ◌*◌, ◌<◌, ◌≤◌, Bool, true, false, cond, ◌||◌, eqb, List, [], ◌∷◌, ◌++◌, map, length, get_or, take, refl, ap, ◌∙◌, inl, inr, arith}
-use Rattle.std.specs.List.{count_by, sum_by, zip}
+-- Rows of matches: how much a row can give a team, what one match more at its end leaves and adds, and what is summed over a row.
+use Rattle.std.proofs.Common.{◌≡◌, ℕ, ◌+◌, ◌*◌, ◌<◌, ◌≤◌, Bool, true, false, ◌||◌, eqb, List, [], ◌∷◌, ◌++◌, map, length, get_or, take, refl, ap, ◌∙◌, inl, inr, arith}
+use Rattle.std.specs.List.{sum_by, zip}
 use Rattle.std.proofs.lemmas.List.Sums.{sum_by-cons}
 use Rattle.std.proofs.lemmas.List.{length-map, length-take, length-take-le, map_more}
 use Rattle.std.proofs.lemmas.Bool.{cases_Bool}
@@ -30,6 +30,12 @@ module _ (m : Match) where
   unplayed_more (n ∷ ms) [] = refl
   unplayed_more (n ∷ ms) (x ∷ xs) = rw (unplayed_more ms xs) (left_by_on (is_result x) n (unplayed ms xs) _)
 
+  pub left_of_more :
+      (ms : List Match) (i : ℕ) → left_of (ms ++ m ∷ []) i ≡ left_of ms i + pick (eqb m.host i || eqb m.guest i) 1 0
+  unfolding left_of
+  left_of_more [] i = omega arith
+  left_of_more (n ∷ ms) i = omega (arith, left_of_more ms i)
+
   pub share_few : (x i : ℕ) → share_beside m x i ≤ 2
   share_few x i = grind (arith, nat_tests)
 
@@ -54,16 +60,7 @@ unplayed_few (m ∷ ms) (x ∷ xs) = let rest = unplayed_few ms xs in
       | inr not_played ↦ rw not_played (omega arith)
     ]
 
--- what is summed over the games of a row is what a row of matches gives
-pub left_counted :
-    (games : List Game) (i : ℕ) → count_by (λ g. eqb g.host i || eqb g.guest i) games ≡ left_of (map match_of games) i
-unfolding left_of
-left_counted [] i = refl
-left_counted (g ∷ games) i =
-    let step = sum_by-cons (λ (g : Game). cond (eqb g.host i || eqb g.guest i) 1 0) g games in
-    let rest = left_counted games i in
-    grind (arith, nat_tests)
-
+-- what is summed over the games of a row, each beside its byte, is what a row of matches gives
 pub won_summed :
     (games : List Game) (xs : List ℕ) (i : ℕ) →
     sum_by (λ p. share_beside (match_of p.0) p.1 i) (zip games xs) ≡ won (map match_of games) xs i
@@ -74,12 +71,15 @@ won_summed (g ∷ games) (x ∷ xs) i =
     let f = λ (p : Game × ℕ). share_beside (match_of p.0) p.1 i in
     omega (arith, sum_by-cons f (g, x) (zip games xs), won_summed games xs i)
 
--- the games before a turn of a loop are no more than its count
+-- the games before a turn of a loop are no more than its count, and leave a team no more
 module _ (games : List Game) (k : ℕ) where
   pub few_before : length (map match_of (take k games)) ≤ k
   few_before = rw (length-map (take k games) match_of, length-take k games) (omega arith)
 
--- what a turn of a loop over games leaves
+  pub left_of_before : (i : ℕ) → left_of (map match_of (take k games)) i ≤ k
+  left_of_before i = omega (arith, left_of_few (map match_of (take k games)) i, few_before)
+
+-- what a turn of a loop over games leaves, and adds
 module _ (games : List Game) (k : ℕ) (d : Game) (l : k < length games) where
   length_before : length (map match_of (take k games)) ≡ k
   length_before = length-map (take k games) match_of ∙ length-take-le k games (omega arith)
@@ -91,3 +91,10 @@ module _ (games : List Game) (k : ℕ) (d : Game) (l : k < length games) where
   unplayed_turn xs =
       ap (λ ms. unplayed ms xs) (map_more match_of games k d l)
       ∙ rw length_before at (unplayed_more (match_of (get_or games k d)) (map match_of (take k games)) xs)
+
+  pub left_of_turn :
+      (i : ℕ) →
+      left_of (map match_of (take (k + 1) games)) i
+      ≡ left_of (map match_of (take k games)) i + pick (eqb (get_or games k d).host i || eqb (get_or games k d).guest i) 1 0
+  left_of_turn i =
+      ap (λ ms. left_of ms i) (map_more match_of games k d l) ∙ left_of_more (match_of (get_or games k d)) (map match_of (take k games)) i

