@@ -39,14 +39,20 @@ const PROGRAM: Program = Program {
 // The most teams that this program has memory for.
 const TEAMS: usize = 32;
 
+// Whether there is one decimal digit or more, and nothing else.
+fn all_digits(bytes: &[u8]) -> bool
+    ensures { Decides result (IsNumeral 10 bytes.now) }
+{
+    !bytes.is_empty() && bytes.iter().all(|b| b.is_ascii_digit())
+}
+
 // Whether a text is a numeral: digits, with a plus before them or not. The library's `parse` cannot tell, since it calls too large as
 // well what is no numeral, but begins with a large one.
 fn is_numeral(text: &str) -> bool
     ensures { Decides result (IsNumeral 10 (without_leading_plus text.now)) }
 {
     let bytes = text.as_bytes();
-    let digits = bytes.strip_prefix(b"+").unwrap_or(bytes);
-    !digits.is_empty() && digits.iter().all(|b| b.is_ascii_digit())
+    all_digits(bytes.strip_prefix(b"+").unwrap_or(bytes))
 }
 
 // The number that a text writes. One that is too large for the machine counts as the largest, which is refused all the same.

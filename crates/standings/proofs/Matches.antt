@@ -12,6 +12,15 @@ use Rattle.season.specs.Table.{Match, left_of}
 use Rattle.standings.specs.Results.{byte_beside, is_result, share_beside, won, unplayed}
 
 module _ (m : Match) where
+  pub won_more :
+      (ms : List Match) (xs : List ℕ) (i : ℕ) →
+      won (ms ++ m ∷ []) xs i ≡ won ms xs i + share_beside m (byte_beside xs (length ms)) i
+  unfolding won
+  won_more [] [] i = refl
+  won_more [] (x ∷ xs) i = omega arith
+  won_more (n ∷ ms) [] i = refl
+  won_more (n ∷ ms) (x ∷ xs) i = omega (arith, won_more ms xs i)
+
   -- what a byte leaves of a match: nothing where it is a result
   abbrev pub left_by : ℕ → List Match
   left_by x = pick (is_result x) [] (m ∷ [])
@@ -83,6 +92,14 @@ module _ (games : List Game) (k : ℕ) where
 module _ (games : List Game) (k : ℕ) (d : Game) (l : k < length games) where
   length_before : length (map match_of (take k games)) ≡ k
   length_before = length-map (take k games) match_of ∙ length-take-le k games (omega arith)
+
+  pub won_turn :
+      (xs : List ℕ) (i : ℕ) →
+      won (map match_of (take (k + 1) games)) xs i
+      ≡ won (map match_of (take k games)) xs i + share_beside (match_of (get_or games k d)) (byte_beside xs k) i
+  won_turn xs i =
+      ap (λ ms. won ms xs i) (map_more match_of games k d l)
+      ∙ rw length_before at (won_more (match_of (get_or games k d)) (map match_of (take k games)) xs i)
 
   pub unplayed_turn :
       (xs : List ℕ) →
